@@ -1,0 +1,11 @@
+use Rattle.int_interval.proofs.Cover.{join_left, join_right, meet_both, meet_holds, included_holds}
+use Rattle.int_interval.proofs.laws.set_laws.Goals as goal
+
+pub returns-clause-join : goal.returns-clause-join
+returns-clause-join c = λ a b z. (join_left a b z, join_right a b z)
+
+pub returns-clause-meet : goal.returns-clause-meet
+returns-clause-meet c = λ a b z. (meet_both a b z, λ h. meet_holds a b z h.0 h.1)
+
+pub returns-clause-included : goal.returns-clause-included
+returns-clause-included c = included_holds

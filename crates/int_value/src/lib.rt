@@ -1,0 +1,24 @@
+//! Values of the integer domain: an interval, a congruence and whether a value may be missing, with C's operators
+//! and their checks (the reduced product of both domains, after Cousot and Cousot; `specs/` has the exact answers).
+#![tactic(auto)]
+
+mod arithmetic;
+mod bitwise;
+mod convert;
+mod laws;
+mod made;
+mod relation;
+mod sets;
+mod shifts;
+mod value;
+mod widen;
+
+pub use laws::{
+    arithmetic_covers, bits_cover, conversions_cover, division_covers, relations_are_true,
+    set_laws, shifts_cover, widen_is_upper,
+};
+pub use made::Made;
+pub use value::Value;
+
+#[cfg(test)]
+mod tests;

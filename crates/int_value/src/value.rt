@@ -1,0 +1,217 @@
+//! Values: the type and its reduction.
+
+ghost use Rattle.std.specs.Prelude.{◌≡◌, ◌≢◌, Bool, true, false, int_lt};
+ghost use Rattle.std.specs.Option.{SomeIff};
+ghost use Rattle.std.specs.Int.{w128};
+ghost use Rattle.std.specs.Prelude.{FitsSigned, IsTrue, IsFalse};
+ghost use Rattle.int_congr.specs.Rows.{is_only, unknown_of};
+ghost use Rattle.int_value.specs.Rows.{
+  answer_of,
+  between,
+  contains_row,
+  empty_of,
+  is_empty,
+  is_in,
+  is_just,
+  lowered_to,
+  one_of,
+  raised_to,
+  reduce_row,
+  reduced,
+  reduced_range,
+};
+
+use int_congr::Congr;
+use int_interval::Interval;
+use machine_ints::residue_of_difference;
+
+/// The numbers that are in the interval and in the congruence, and "no value" where `unset` says so. Each answer
+/// is reduced: the ends of its interval are in its congruence, and what has no number is `Interval::Empty`.
+#[derive(Clone, Copy, Debug, PartialEq, Eq)]
+pub struct Value {
+    pub range: Interval,
+    pub congr: Congr,
+    pub unset: bool,
+}
+
+/// No number.
+pub(crate) fn empty(unset: bool) -> Value
+    ensures { result ≡ empty_of unset }
+{
+    Value {
+        range: Interval::Empty,
+        congr: Congr { rem: 0, modulus: 1 },
+        unset,
+    }
+}
+
+/// One number.
+pub(crate) fn one(number: i128, unset: bool) -> Value
+    ensures { result ≡ one_of number unset }
+{
+    Value {
+        range: Interval::Within {
+            lo: number,
+            hi: number,
+        },
+        congr: Congr {
+            rem: number,
+            modulus: 0,
+        },
+        unset,
+    }
+}
+
+/// An answer by its parts, reduced; with `Interval::All` nothing more is known.
+pub(crate) fn answer(range: Interval, congr: Congr, unset: bool) -> Value
+    ensures { result ≡ answer_of range congr unset }
+{
+    match range {
+        Interval::Empty => empty(unset),
+        Interval::Within { lo, hi } => reduced_within(lo, hi, congr, unset),
+        Interval::All => Value {
+            range,
+            congr: Congr { rem: 0, modulus: 1 },
+            unset,
+        },
+    }
+}
+
+/// The parts reduced.
+pub(crate) fn reduced_parts(range: Interval, congr: Congr, unset: bool) -> Value
+    ensures { result ≡ reduced_range range congr unset }
+{
+    match range {
+        Interval::Empty => empty(unset),
+        Interval::Within { lo, hi } => reduced_within(lo, hi, congr, unset),
+        Interval::All => Value {
+            range,
+            congr,
+            unset,
+        },
+    }
+}
+
+#[tactic(auto, unfolding(crate::specs::Rows::reduced))]
+fn reduced_within(lo: i128, hi: i128, congr: Congr, unset: bool) -> Value
+    ensures { result ≡ reduced lo hi congr unset }
+{
+    if congr.is_single() {
+        reduced_single(lo, hi, congr, unset)
+    } else {
+        reduced_between(lo, hi, congr, unset)
+    }
+}
+
+#[tactic(auto, unfolding(crate::specs::Rows::reduced))]
+fn reduced_single(lo: i128, hi: i128, congr: Congr, unset: bool) -> Value
+    requires { is_only congr ≡ true }
+    ensures { result ≡ reduced lo hi congr unset }
+{
+    if is_from_to(congr.rem, lo, hi) {
+        one(congr.rem, unset)
+    } else {
+        empty(unset)
+    }
+}
+
+/// Whether the number is from `lo` to `hi`.
+fn is_from_to(number: i128, lo: i128, hi: i128) -> bool
+    ensures { result ≡ is_in (Interval.Within lo hi) number }
+{
+    lo <= number && number <= hi
+}
+
+fn reduced_between(lo: i128, hi: i128, congr: Congr, unset: bool) -> Value
+    requires { is_only congr ≡ false }
+    ensures { result ≡ between (raised_to congr lo) (lowered_to congr hi) congr unset }
+{
+    match raised(lo, congr) {
+        None => empty(unset),
+        Some(least) => match lowered(hi, congr) {
+            None => empty(unset),
+            Some(greatest) => ends_between(least, greatest, congr, unset),
+        },
+    }
+}
+
+/// `lo` raised to the next number of the congruence, if it fits.
+fn raised(lo: i128, congr: Congr) -> Option<i128>
+    requires { is_only congr ≡ false }
+    ensures { SomeIff result (FitsSigned w128 (raised_to congr lo)) (raised_to congr lo) }
+{
+    lo.checked_add_unsigned(residue_of_difference(congr.rem, lo, congr.period()))
+}
+
+/// `hi` lowered to the next number of the congruence, if it fits.
+fn lowered(hi: i128, congr: Congr) -> Option<i128>
+    requires { is_only congr ≡ false }
+    ensures { SomeIff result (FitsSigned w128 (lowered_to congr hi)) (lowered_to congr hi) }
+{
+    hi.checked_sub_unsigned(residue_of_difference(hi, congr.rem, congr.period()))
+}
+
+fn ends_between(lo: i128, hi: i128, congr: Congr, unset: bool) -> Value
+    ensures { result ≡ between lo hi congr unset }
+{
+    if hi < lo {
+        empty(unset)
+    } else if hi <= lo {
+        one(lo, unset)
+    } else {
+        Value {
+            range: Interval::Within { lo, hi },
+            congr,
+            unset,
+        }
+    }
+}
+
+/// Whether the interval has no number.
+pub(crate) fn is_without(range: &Interval) -> bool
+    ensures { result ≡ is_empty range.now }
+{
+    match *range {
+        Interval::Empty => true,
+        Interval::Within { lo, hi } => false,
+        Interval::All => false,
+    }
+}
+
+/// Whether the interval is this number alone.
+pub(crate) fn is_only_number(range: &Interval, number: i128) -> bool
+    ensures { result ≡ is_just range.now number }
+{
+    match *range {
+        Interval::Empty => false,
+        Interval::Within { lo, hi } => lo == number && hi == number,
+        Interval::All => false,
+    }
+}
+
+impl Value {
+    /// The value with its ends in its congruence: `lo` is raised and `hi` lowered to the nearest number of it. What
+    /// has no number becomes empty, and what has one number a single number. An interval `All` is left as it is.
+    pub fn reduce(&self) -> Value
+        ensures { result ≡ reduce_row self.now }
+    {
+        reduced_parts(self.range, self.congr, self.unset)
+    }
+
+    /// Whether the number is in the value.
+    pub fn contains(&self, number: i128) -> bool
+        ensures { result ≡ contains_row self.now number }
+    {
+        is_in_range(&self.range, number) && self.congr.contains(number)
+    }
+}
+
+fn is_in_range(range: &Interval, number: i128) -> bool
+    ensures { result ≡ is_in range.now number }
+{
+    match *range {
+        Interval::Empty => false,
+        Interval::Within { lo, hi } => lo <= number && number <= hi,
+        Interval::All => true,
+    }
+}

@@ -1,0 +1,10 @@
+pub mod BitLaws
+pub mod BoundLaws
+pub mod Products
+pub mod Residues
+pub mod Gcds
+pub mod Greatest
+pub mod Congruences
+pub mod Conversions
+pub mod Corners
+pub mod Quotients

@@ -1,0 +1,7 @@
+pub mod Bits
+pub mod Bound
+pub mod Convert
+pub mod Corners
+pub mod Divisors
+pub mod Halves
+pub mod Operators
