@@ -1,0 +1,17 @@
+//! What all layers speak of: numbers of things, places in a text, statuses, verdicts, names and the
+//! values of parameters.
+#![tactic(auto)]
+
+mod ids;
+mod name;
+mod params;
+mod relation;
+mod status;
+mod verdict;
+
+pub use ids::{EmitterId, FnId, Line, PointId, PropId, SiteId, Span};
+pub use name::{Bounded, Name, PropName};
+pub use params::{ParamSet, ParamValues};
+pub use relation::Relation;
+pub use status::LocalStatus;
+pub use verdict::{VERDICTS, Verdict};

@@ -1,0 +1,8 @@
+use Rattle.std.proofs.Common.{◌≡◌, ◌++◌, drop}
+use Rattle.status_rules.specs.Flags.{flag}
+use Rattle.status_rules.specs.Holds.{extends}
+use Rattle.status_rules.specs.Verdicts.{at_each}
+use Rattle.status_rules.proofs.flags.extended.Given as goal
+
+abbrev pub invariant-loop-place : goal.invariant-loop-place
+invariant-loop-place l = l.flags.items ++ at_each (extends l.props (flag l.known) (flag l.claimed)) l.place (drop l.place l.props.rows) ≡ at_each (extends l.props (flag l.known) (flag l.claimed)) 0 l.props.rows
