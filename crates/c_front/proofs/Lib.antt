@@ -1,0 +1,13 @@
+pub mod Body
+pub mod FirstToken
+pub mod Spans
+pub mod Sums
+pub mod Spells
+pub mod Takes
+pub mod Again
+pub mod Numbers
+pub mod FirstKind
+pub mod KindAgain
+pub mod ScopeStep
+pub mod Numbering
+pub mod OneTree

@@ -1,0 +1,10 @@
+pub mod Outcome
+pub mod Tokens
+pub mod Lexing
+pub mod Names
+pub mod Reading
+pub mod Grammar
+pub mod Scope
+pub mod Program
+pub mod Rows
+pub mod Numbered

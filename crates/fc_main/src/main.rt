@@ -1,0 +1,34 @@
+//! The program `fc_main`: its words are `report FILE --script EVENTS`. It writes the report to standard output,
+//! says on standard error how the call ended where not all went well, and ends with the exit status of
+//! `kernel_serve`.
+#![tactic(auto)]
+
+use fc_outside::{FileShelf, OutSink};
+use kernel_serve::{Status, fault_line, report_run};
+use std::env;
+use std::io::{ErrorKind, Write};
+use std::process::ExitCode;
+
+fn main(rt: HostRuntime) -> ExitCode {
+    let status = run(&rt);
+    if let Ok(line) = fault_line(rt.alloc(), &status) {
+        // Where standard error takes nothing, the exit status still tells.
+        let _ = rt.stderr().write_all(line.as_slice());
+    }
+    ExitCode::from(status.exit_status())
+}
+
+/// Answers the call that the program's words are. Words that aren't UTF-8 are no call.
+fn run(rt: &HostRuntime) -> Status {
+    let words = match env::args(rt) {
+        Ok(words) => words,
+        Err(error) if error.kind() == ErrorKind::OutOfMemory => return Status::Memory,
+        Err(_) => return Status::Usage,
+    };
+    let Ok(words) = words.skip(1).collect::<Vec<String>>(rt.alloc()) else {
+        return Status::Memory;
+    };
+    let mut shelf = FileShelf::new(rt);
+    let mut out = OutSink::new(rt.stdout());
+    report_run(rt.alloc(), words.as_slice(), &mut shelf, &mut out)
+}

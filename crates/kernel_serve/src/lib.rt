@@ -1,0 +1,13 @@
+//! A call: its words, the files that it names, what it writes and how it ends.
+#![tactic(auto)]
+
+mod batch;
+mod inputs;
+mod status;
+mod words;
+
+pub use batch::report_run;
+pub use status::{FrontFault, Input, Status, fault_line};
+
+#[cfg(test)]
+mod tests;

@@ -1,0 +1,361 @@
+use super::*;
+use fc_outside::{MemFile, MemShelf, MemSink};
+use sqlite_items::Items;
+use std::alloc::{AllocError, Global};
+use std::test::Fail;
+
+const WORDS: [&str; 4] = ["report", "f.c", "--script", "e"];
+
+const EXAMPLE: &str =
+    "int main(void) { int x = 4;\nx = x + 1;\n//@ assert a: x == 5;\nreturn x; }\n";
+
+const EXAMPLE_REPORT: &str = "main@2/signed_overflow/0 2 Never_tried
+main@3/assert/0 3 Never_tried (a)
+Total 2
+  Never_tried 2
+";
+
+const NO_FILE: Status = Status::Refused(FrontFault::Unbuilt(Input::File));
+
+const NO_SCRIPT: Status = Status::Refused(FrontFault::Unbuilt(Input::Script));
+
+/// How the outside behaves: a read or a write moves at most `above_one + 1` bytes, and these calls fail.
+#[derive(Clone, Copy)]
+struct Outside {
+    above_one: u16,
+    failing_read: u64,
+    failing_write: u64,
+}
+
+/// Nothing fails; many bytes at a time, or one.
+const QUICK: Outside = Outside {
+    above_one: 60_000,
+    failing_read: 0,
+    failing_write: 0,
+};
+
+const SLOW: Outside = Outside {
+    above_one: 0,
+    failing_read: 0,
+    failing_write: 0,
+};
+
+fn strings(alloc: Global, words: &[&str]) -> Result<Vec<String>, AllocError> {
+    let mut strings = Vec::new(alloc);
+    for word in words {
+        strings.push(String::from_str(alloc, word)?)?;
+    }
+    Ok(strings)
+}
+
+/// Whether the call that these words are, on a file `f.c` and a script `e` of these bytes, ends with this
+/// status and writes just this.
+fn answers(
+    alloc: Global,
+    words: &[&str],
+    (file, script): (&[u8], &[u8]),
+    outside: Outside,
+    status: Status,
+    text: &[u8],
+) -> Result<bool, AllocError> {
+    let mut files = Items::new(alloc);
+    files.push(MemFile::new(alloc, "f.c", file)?)?;
+    files.push(MemFile::new(alloc, "e", script)?)?;
+    let most = usize::from(outside.above_one) + 1;
+    let failing_reads = Items::from_slice(alloc, &[outside.failing_read])?;
+    let failing_writes = Items::from_slice(alloc, &[outside.failing_write])?;
+    let mut shelf = MemShelf::new(alloc, files, most, failing_reads)?;
+    let mut sink = MemSink::new(alloc, 2_000_000, most, failing_writes)?;
+    let words = strings(alloc, words)?;
+    let ended = report_run(alloc, words.as_slice(), &mut shelf, &mut sink);
+    Ok(ended == status && sink.held() == text)
+}
+
+/// Whether a report on this file, with an empty script, is this text.
+fn reports(alloc: Global, file: &[u8], outside: Outside, text: &[u8]) -> Result<bool, AllocError> {
+    answers(alloc, &WORDS, (file, b""), outside, Status::Done, text)
+}
+
+#[test]
+fn reports_are_written(rt: HostRuntime) -> Result<(), Fail> {
+    let cases = [
+        (EXAMPLE, EXAMPLE_REPORT),
+        ("int main(void){ return 0; }", "Total 0\n"),
+        (
+            "int main(void) { int x = 2147483647; //@ assert x != 0 ;\n return x; }",
+            "main@2/assert/0 1 Never_tried\nTotal 1\n  Never_tried 1\n",
+        ),
+        (
+            "int main(void) { int x = 1; int y = 2;\nreturn x + y + 1; }",
+            "main@3/signed_overflow/0 2 Never_tried\nmain@3/signed_overflow/1 2 Never_tried\nTotal 2\n  Never_tried 2\n",
+        ),
+        (
+            " \n int\nmain ( \nvoid )\n\n{ return\n1\n+ 1 ; \n } \n \n",
+            "main@1/signed_overflow/0 6 Never_tried\nTotal 1\n  Never_tried 1\n",
+        ),
+    ];
+    for (file, text) in cases {
+        for outside in [QUICK, SLOW] {
+            let holds = reports(rt.alloc(), file.as_bytes(), outside, text.as_bytes())?;
+            assert!(rt; holds, "{file}");
+        }
+    }
+    Ok(())
+}
+
+#[test]
+fn what_is_no_program_is_refused(rt: HostRuntime) -> Result<(), Fail> {
+    let files = [
+        "",
+        "int main(void) { }",
+        "int main(void) { return 0; ",
+        "int main(void) { return 0 }",
+        "int main(void) { return 0; } x",
+        "int main(void) { return 0; return 1; }",
+        "int main() { return 0; }",
+        "int f(void) { return 0; }",
+        "int main(void) { int int = 1; return 0; }",
+        "int main(void) { int while = 1; return 0; }",
+        "int main(void) { int x = 1; int x = 2; return x; }",
+        "int main(void) { x = 1; int x = 2; return x; }",
+        "int main(void) { int x = x; return x; }",
+        "int main(void) { return y; }",
+        "int main(void) { int x; return 0; }",
+        "int main(void) { return 01; }",
+        "int main(void) { return 2147483648; }",
+        "int main(void) { return -1; }",
+        "int main(void) { return 1 - 1; }",
+        "int main(void) {\treturn 0; }",
+        "int main(void) { /* */ return 0; }",
+        "int main(void) { //@ assert y == 1;\nreturn 0; }",
+        "int main(void) { int x = 4;\n//@ assert x ==\n 4;\nreturn x; }",
+    ];
+    for file in files {
+        // The script isn't looked at.
+        let inputs = (file.as_bytes(), b"x".as_slice());
+        let holds = answers(rt.alloc(), &WORDS, inputs, QUICK, NO_FILE, b"")?;
+        assert!(rt; holds, "{file}");
+    }
+    Ok(())
+}
+
+#[test]
+fn scripts_are_blank(rt: HostRuntime) -> Result<(), Fail> {
+    let cases = [
+        ("", true),
+        (" \t\r\n\x0b\x0c\n", true),
+        ("\n x", false),
+        ("\0", false),
+        ("\x08", false),
+        ("\x0e", false),
+        ("!", false),
+        ("{}\n", false),
+    ];
+    for (script, is_blank) in cases {
+        let inputs = (EXAMPLE.as_bytes(), script.as_bytes());
+        let (status, text) = if is_blank {
+            (Status::Done, EXAMPLE_REPORT)
+        } else {
+            (NO_SCRIPT, "")
+        };
+        let holds = answers(rt.alloc(), &WORDS, inputs, QUICK, status, text.as_bytes())?;
+        assert!(rt; holds, "{script}");
+    }
+    Ok(())
+}
+
+#[test]
+fn words_are_four(rt: HostRuntime) -> Result<(), Fail> {
+    let alloc = rt.alloc();
+    let inputs = (EXAMPLE.as_bytes(), b"".as_slice());
+    let refused: [&[&str]; 13] = [
+        &[],
+        &["report"],
+        &["report", "f.c"],
+        &["report", "f.c", "--script"],
+        &["report", "f.c", "--script", "e", "--points"],
+        &["report", "f.c", "--script", ""],
+        &["report", "f.c", "--script", "-"],
+        &["report", "f.c", "--script", "-e"],
+        &["report", "-f", "--script", "e"],
+        &["report", "--script", "e", "f.c"],
+        &["--script", "e", "report", "f.c"],
+        &["reports", "f.c", "--script", "e"],
+        &["report", "f.c", "-script", "e"],
+    ];
+    for words in refused {
+        let holds = answers(alloc, words, inputs, QUICK, Status::Usage, b"")?;
+        assert!(rt; holds, "{words:?}");
+    }
+    // These name files that aren't there, which are empty.
+    for file in ["", "-", "g.c"] {
+        let words = ["report", file, "--script", "e"];
+        let holds = answers(alloc, &words, inputs, QUICK, NO_FILE, b"")?;
+        assert!(rt; holds, "{file}");
+    }
+    Ok(())
+}
+
+/// These bytes and then blanks, `length` bytes in all.
+fn padded(alloc: Global, text: &[u8], length: u32) -> Result<Vec<u8>, AllocError> {
+    let mut bytes = Vec::from_slice(alloc, text)?;
+    for _ in 0..(length as usize).saturating_sub(text.len()) {
+        bytes.push(b' ')?;
+    }
+    Ok(bytes)
+}
+
+#[test]
+fn files_have_a_greatest_length(rt: HostRuntime) -> Result<(), Fail> {
+    let alloc = rt.alloc();
+    let example = EXAMPLE.as_bytes();
+    let report = EXAMPLE_REPORT.as_bytes();
+    let file = padded(alloc, example, 65_536)?;
+    let script = padded(alloc, b"", 65_536)?;
+    let inputs = (file.as_slice(), script.as_slice());
+    let holds = answers(alloc, &WORDS, inputs, QUICK, Status::Done, report)?;
+    assert!(rt; holds, "both at the limit");
+    let long_file = padded(alloc, example, 65_537)?;
+    let inputs = (long_file.as_slice(), script.as_slice());
+    let holds = answers(alloc, &WORDS, inputs, QUICK, NO_FILE, b"")?;
+    assert!(rt; holds, "a long file");
+    let long_script = padded(alloc, b"", 65_537)?;
+    let inputs = (file.as_slice(), long_script.as_slice());
+    let holds = answers(alloc, &WORDS, inputs, QUICK, NO_SCRIPT, b"")?;
+    assert!(rt; holds, "a long script");
+    Ok(())
+}
+
+/// A program with a variable whose name has this length.
+fn named(alloc: Global, length: u32) -> Result<Vec<u8>, AllocError> {
+    let mut name = Vec::new(alloc);
+    for _ in 0..length {
+        name.push(b'n')?;
+    }
+    let mut file = Vec::from_slice(alloc, b"int main(void) { int ")?;
+    file.extend_from_slice(name.as_slice())?;
+    file.extend_from_slice(b" = 1; return ")?;
+    file.extend_from_slice(name.as_slice())?;
+    file.extend_from_slice(b"; }")?;
+    Ok(file)
+}
+
+#[test]
+fn names_have_a_greatest_length(rt: HostRuntime) -> Result<(), Fail> {
+    let alloc = rt.alloc();
+    let holds = reports(alloc, named(alloc, 256)?.as_slice(), QUICK, b"Total 0\n")?;
+    assert!(rt; holds, "256 bytes");
+    let file = named(alloc, 257)?;
+    let inputs = (file.as_slice(), b"".as_slice());
+    let holds = answers(alloc, &WORDS, inputs, QUICK, NO_FILE, b"")?;
+    assert!(rt; holds, "257 bytes");
+    Ok(())
+}
+
+#[test]
+fn each_read_may_fail(rt: HostRuntime) -> Result<(), Fail> {
+    let inputs = (EXAMPLE.as_bytes(), b"\n".as_slice());
+    // For each file a beginning, a read for each byte, and one that finds the end.
+    let calls = EXAMPLE.len() as u64 + 5;
+    for call in 1..=calls {
+        let outside = Outside {
+            failing_read: call,
+            ..SLOW
+        };
+        let holds = answers(rt.alloc(), &WORDS, inputs, outside, Status::ReadFault, b"")?;
+        assert!(rt; holds, "call {call}");
+    }
+    let outside = Outside {
+        failing_read: calls + 1,
+        ..SLOW
+    };
+    let report = EXAMPLE_REPORT.as_bytes();
+    let holds = answers(rt.alloc(), &WORDS, inputs, outside, Status::Done, report)?;
+    assert!(rt; holds, "no call");
+    Ok(())
+}
+
+#[test]
+fn each_write_may_fail(rt: HostRuntime) -> Result<(), Fail> {
+    let inputs = (EXAMPLE.as_bytes(), b"\n".as_slice());
+    let report = EXAMPLE_REPORT.as_bytes();
+    for written in 0..report.len() {
+        let (part, _) = report.split_at(written);
+        let outside = Outside {
+            failing_write: written as u64 + 1,
+            ..SLOW
+        };
+        let holds = answers(
+            rt.alloc(),
+            &WORDS,
+            inputs,
+            outside,
+            Status::WriteFault,
+            part,
+        )?;
+        assert!(rt; holds, "behind {written} bytes");
+    }
+    Ok(())
+}
+
+/// A sum of so many ones, and the report on it.
+fn long_sum(alloc: Global, items: u32) -> Result<(Vec<u8>, Vec<u8>), AllocError> {
+    let mut file = Vec::from_slice(alloc, b"int main(void){return 1")?;
+    let mut report = Vec::new(alloc);
+    let alarms = items.saturating_sub(1);
+    for alarm in 0..alarms {
+        file.extend_from_slice(b"+1")?;
+        let row = format!(in alloc; "main@1/signed_overflow/{alarm} 1 Never_tried\n")?;
+        report.extend_from_slice(row.as_bytes())?;
+    }
+    file.extend_from_slice(b";}")?;
+    let end = format!(in alloc; "Total {alarms}\n  Never_tried {alarms}\n")?;
+    report.extend_from_slice(end.as_bytes())?;
+    Ok((file, report))
+}
+
+/// So many asserts, each on its line, and the report on them.
+fn many_asserts(alloc: Global, asserts: u16) -> Result<(Vec<u8>, Vec<u8>), AllocError> {
+    let mut file = Vec::from_slice(alloc, b"int main(void) {\n")?;
+    let mut report = Vec::new(alloc);
+    for number in 1..=u32::from(asserts) {
+        file.extend_from_slice(b"//@ assert 1<2;\n")?;
+        let line = number + 1;
+        let row = format!(in alloc; "main@{number}/assert/0 {line} Never_tried\n")?;
+        report.extend_from_slice(row.as_bytes())?;
+    }
+    file.extend_from_slice(b"return 0; }\n")?;
+    let end = format!(in alloc; "Total {asserts}\n  Never_tried {asserts}\n")?;
+    report.extend_from_slice(end.as_bytes())?;
+    Ok((file, report))
+}
+
+#[test]
+fn large_files_are_reported(rt: HostRuntime) -> Result<(), Fail> {
+    let (file, report) = long_sum(rt.alloc(), 30_000)?;
+    let holds = reports(rt.alloc(), file.as_slice(), QUICK, report.as_slice())?;
+    assert!(rt; holds, "a sum of 30,000 items");
+    let (file, report) = many_asserts(rt.alloc(), 3_000)?;
+    let holds = reports(rt.alloc(), file.as_slice(), QUICK, report.as_slice())?;
+    assert!(rt; holds, "3,000 asserts");
+    Ok(())
+}
+
+#[test]
+fn statuses_are_told(rt: HostRuntime) -> Result<(), Fail> {
+    let cases = [
+        (Status::Done, 0, ""),
+        (NO_FILE, 1, "refused: file Unbuilt\n"),
+        (NO_SCRIPT, 1, "refused: script Unbuilt\n"),
+        (Status::Usage, 2, "usage\n"),
+        (Status::ReadFault, 3, "read fault\n"),
+        (Status::WriteFault, 4, "write fault\n"),
+        (Status::Memory, 5, "out of memory\n"),
+    ];
+    for (status, number, text) in cases {
+        let line = fault_line(rt.alloc(), &status)?;
+        let holds = status.exit_status() == number && line.as_slice() == text.as_bytes();
+        assert!(rt; holds, "{status:?}");
+    }
+    Ok(())
+}
