@@ -1,1 +1,3 @@
+pub mod Emitters
+pub mod FirstLine
 pub mod Whole

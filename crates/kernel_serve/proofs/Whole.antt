@@ -1,12 +1,15 @@
 -- A file of which at most 65,537 bytes were read.
-use Rattle.std.proofs.Common.{◌≡◌, ◌+◌, ◌<◌, ◌≤◌, inl, inr, ℕ, Bool, List, Option, None, Some, IfSome, length, take, min, refl, sym, ◌∙◌, ap, subst, arith}
+use Rattle.std.proofs.Common.{◌≡◌, ◌+◌, ◌<◌, ◌≤◌, inl, inr, ℕ, List, Option, None, Some, IfSome, length, take, min, refl, sym, ◌∙◌, ap, subst, arith}
 use Rattle.std.proofs.lemmas.List.{take_all, length-take}
 use Rattle.std.proofs.lemmas.Bool.{lt-leb}
 use Rattle.std.proofs.lemmas.Bool.Decides.{leb_tells}
 use Rattle.c_front.specs.declared.tree.Unit.{Unit}
 use Rattle.c_front.specs.Program.{IsProgram}
 use Rattle.fc_outside.specs.Whole.{FirstBytes}
-use Rattle.kernel_serve.specs.Batch.{NoTree, is_blank_script}
+use Rattle.c_ir.specs.declared.prop.Prop.{Prop}
+use Rattle.status_history.specs.declared.history.Change.{Change}
+use Rattle.kernel_serve.specs.Batch.{NoTree}
+use Rattle.kernel_serve.specs.Script.{changes_of}
 
 -- what was read is all, if it is within the limit
 pub all_read : (all : List ℕ) (most : ℕ) → length (take (most + 1) all) ≤ most → take (most + 1) all ≡ all
@@ -30,17 +33,18 @@ no_tree_of_all (Some all) bytes first none =
     let e : bytes ≡ all = first ∙ take_all 65537 all (omega (arith, h)) in
     none u (subst (λ (bs : List ℕ). IsProgram bs u) (sym e) p)
 
--- what was read passes for a blank script where all does
-pub blank_of_take : (all : List ℕ) → is_blank_script (take 65537 all) ≡ is_blank_script all
-blank_of_take all =
+-- what was read makes the changes that all makes
+changes_of_take : (rows : List Prop) (all : List ℕ) → changes_of rows (take 65537 all) ≡ changes_of rows all
+unfolding changes_of
+changes_of_take rows all =
     elim (leb_tells (length all) 65536) [
-      | inl p ↦ let h : length all ≤ 65536 = p.1 in ap is_blank_script (take_all 65537 all (omega (arith, h)))
+      | inl p ↦ let h : length all ≤ 65536 = p.1 in ap (changes_of rows) (take_all (65536 + 1) all (omega (arith, h)))
       | inr q ↦
           let h : 65536 < length all = q.1 in
           let e : length (take 65537 all) ≡ min 65537 (length all) = length-take 65537 all in
           rw (lt-leb (length (take 65537 all)) 65536 (omega (arith, e, h)), q.0) refl
     ]
 
-pub blank_of_all : (told : Option (List ℕ)) (bytes : List ℕ) (b : Bool) → FirstBytes 65537 told bytes → is_blank_script bytes ≡ b → IfSome told (λ all. is_blank_script all ≡ b)
-blank_of_all None bytes b first h = tt
-blank_of_all (Some all) bytes b first h = sym (ap is_blank_script first ∙ blank_of_take all) ∙ h
+pub changes_of_all : (rows : List Prop) (told : Option (List ℕ)) (bytes : List ℕ) (wanted : Option (List Change)) → FirstBytes 65537 told bytes → changes_of rows bytes ≡ wanted → IfSome told (λ all. changes_of rows all ≡ wanted)
+changes_of_all rows None bytes wanted first h = tt
+changes_of_all rows (Some all) bytes wanted first h = sym (ap (changes_of rows) first ∙ changes_of_take rows all) ∙ h

@@ -1,45 +1,41 @@
 -- What a call comes to, by the files that it names (this project's own).
-use Rattle.std.specs.Prelude.{◌≡◌, ◌<◌, ◌==◌, ◌||◌, ◌&&◌, ◌++◌, ℕ, Bool, true, false, nat_le, List, [], Option, None, Some, map, length, take}
-use Rattle.std.specs.List.{list_all}
-use Rattle.fc_base.specs.declared.verdict.Verdict.{Verdict}
-use Rattle.fc_base.specs.declared.verdict.Verdict.TheVariants.{NeverTried}
-use Rattle.c_ir.specs.declared.prop.Prop.{Prop}
+use Rattle.std.specs.Prelude.{◌≡◌, ◌<◌, ◌++◌, ℕ, false, List, [], Option, None, Some, length, take}
+use Rattle.fc_base.specs.Params.{opening_values}
+use Rattle.c_ir.specs.Props.{Props}
 use Rattle.c_front.specs.declared.tree.Unit.{Unit}
 use Rattle.c_front.specs.Program.{IsProgram}
 use Rattle.c_front.specs.Rows.{props_of}
 use Rattle.fc_outside.specs.Contents.{contents_of}
 use Rattle.report_print.specs.Report.{report_text}
+use Rattle.status_history.specs.declared.history.Change.{Change}
+use Rattle.status_history.specs.declared.history.History.{History}
+use Rattle.status_rules.specs.Verdicts.{full_of}
 use Rattle.kernel_serve.specs.declared.status.Input.TheVariants as Input
 use Rattle.kernel_serve.specs.declared.status.FrontFault.TheVariants as Fault
 use Rattle.kernel_serve.specs.declared.status.Status.{Status}
 use Rattle.kernel_serve.specs.declared.status.Status.TheVariants as S
+use Rattle.kernel_serve.specs.Script.{changes_of}
 use Rattle.kernel_serve.specs.Words.{line_of}
 
 -- the bytes are no program
 abbrev pub NoTree : List ℕ → Type 0
 NoTree bytes = (u : Unit) → IsProgram bytes u → ⊥
 
--- space, tab, LF, VT, FF and CR
-abbrev pub is_blank : ℕ → Bool
-is_blank b = b == 32 || nat_le 9 b && nat_le b 13
+-- the history of these changes. At its opening the entry function is `main`, which is function 0
+abbrev pub history_of : List Change → History
+history_of cs = record { opening = record { values = opening_values 0 false }; changes = cs }
 
--- the scripts that can be answered: at most 65,536 bytes, all of them blank
-abbrev pub is_blank_script : List ℕ → Bool
-is_blank_script bytes = nat_le (length bytes) 65536 && list_all is_blank bytes
-
--- nobody has said anything of these properties
-abbrev pub untried : List Prop → List Verdict
-untried props = map (λ (p : Prop). NeverTried) props
-
--- the report on a program of which nobody has said anything
-abbrev pub untried_report : Unit → List ℕ
-untried_report u = report_text (props_of u).rows (untried (props_of u).rows) false
+-- the report on a table of properties and these changes
+unfoldable pub report_of : Props → List Change → List ℕ
+report_of t cs = report_text t.rows (full_of (history_of cs) t) false
 
 -- what a report on a file of these bytes, with a script of these, ends with and writes, where nothing fails
 abbrev pub IsReport : List ℕ → List ℕ → Status → List ℕ → Type 0
-IsReport file script S.Done out = (u : Unit) × IsProgram file u × (is_blank_script script ≡ true) × (out ≡ untried_report u)
+IsReport file script S.Done out =
+    (u : Unit) × IsProgram file u × ((cs : List Change) × (changes_of (props_of u).rows script ≡ Some cs) × (out ≡ report_of (props_of u) cs))
 IsReport file script (S.Refused (Fault.Unbuilt Input.File)) out = NoTree file × (out ≡ [])
-IsReport file script (S.Refused (Fault.Unbuilt Input.Script)) out = (u : Unit) × IsProgram file u × (is_blank_script script ≡ false) × (out ≡ [])
+IsReport file script (S.Refused (Fault.Unbuilt Input.Script)) out =
+    (u : Unit) × IsProgram file u × (changes_of (props_of u).rows script ≡ None) × (out ≡ [])
 IsReport file script S.Usage out = ⊥
 IsReport file script S.ReadFault out = ⊥
 IsReport file script S.WriteFault out = ⊥

@@ -1,4 +1,7 @@
 pub mod Words
 pub mod Status
+pub mod Allowed
+pub mod Script
+pub mod Known
 pub mod Batch
 pub mod Steps

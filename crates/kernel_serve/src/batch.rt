@@ -1,23 +1,27 @@
 //! Answering a call.
 
-ghost use Rattle.std.specs.Prelude.{◌≡◌, ◌≤◌, ◌↔◌, IfErr, IfOk, IfSome, None, length, map, string_bytes};
+ghost use Rattle.std.specs.Prelude.{◌≡◌, ◌≤◌, ◌↔◌, IfErr, IfOk, IfSome, None, map, string_bytes};
 ghost use Rattle.std.specs.Result.{IsErrOf};
-ghost use Rattle.c_front.specs.Rows.{rows_of};
 ghost use Rattle.fc_outside.specs.Causes.{Rose};
 ghost use Rattle.fc_outside.specs.Contents.{contents_of};
 ghost use Rattle.kernel_serve.specs.Words.{line_of};
-ghost use Rattle.kernel_serve.specs.Batch.{untried, untried_report, IsReport, OutcomeIfTold, WrittenOnly};
+ghost use Rattle.kernel_serve.specs.Batch.{history_of, report_of, IsReport, OutcomeIfTold, WrittenOnly};
 ghost use Rattle.kernel_serve.specs.Steps.{StopsFor};
 
-use crate::inputs::{InputFault, read_blank, tree_of};
+use crate::inputs::{InputFault, changes_in, tree_of};
 use crate::status::{FrontFault, Input, Status};
 use crate::words::named_files;
-use c_front::{Unit, table};
-use c_ir::Prop;
-use fc_base::Verdict;
+use c_front::table;
+use c_ir::PropTable;
+use fc_base::ParamValues;
 use fc_outside::{Shelf, Sink, WriteFault, write_all};
 use report_print::report;
+use status_history::{Changes, History};
+use status_rules::full;
 use std::alloc::{AllocError, Global};
+
+/// The number of the function `main`, the only one.
+const MAIN: u32 = 0;
 
 /// Why there is no report to write.
 pub(crate) enum Stop {
@@ -34,10 +38,16 @@ pub(crate) enum Stop {
 /// `-`; EVENTS isn't empty and doesn't begin with `-`. Other words are Usage.
 ///
 /// Refused comes exactly where the named file is no program (`c_front::unit`), and where it is one but the
-/// script has more than 65,536 bytes or one that isn't space, tab, LF, VT, FF or CR. Else the report on the
-/// program, of which nobody has said anything, is written, and all of it at Done. ReadFault and WriteFault
-/// come only where the shelf or the sink had a fault, and Memory where there was no memory; at WriteFault
-/// the sink holds a first part of the report, else nothing of it.
+/// script isn't one of at most 65,536 bytes whose lines are each blank or ask for a change that is allowed:
+///
+/// - `{"register":NAME,"correctness":[]}`, where no emitter has the name and there are fewer than 256;
+/// - `{"emit":EMITTER,"prop":NAME,"status":STATUS,"hyps":[NAME, ..]}`, where an earlier line registered the
+///   emitter, the table has the properties and there are at most 256 hypotheses.
+///
+/// (`event_script::Script::line` has the forms whole.) Else the report on the program's properties with the
+/// verdicts that these changes come to (`status_rules::full`) is written, and all of it at Done. ReadFault and
+/// WriteFault come only where the shelf or the sink had a fault, and Memory where there was no memory; at
+/// WriteFault the sink holds a first part of the report, else nothing of it.
 pub fn report_run<F: Shelf, S: Sink>(
     alloc: Global,
     words: &[String],
@@ -91,35 +101,36 @@ where
         Err(InputFault::Read) => return Err(Stop::Read),
         Err(InputFault::Memory) => return Err(Stop::Memory),
     };
-    match read_blank(alloc, shelf, events) {
-        Ok(()) => {}
+    let Ok(props) = table(alloc, &unit) else {
+        return Err(Stop::Memory);
+    };
+    let changes = match changes_in(alloc, shelf, events, &props) {
+        Ok(changes) => changes,
         Err(InputFault::Refused) => return Err(Stop::Refused(Input::Script)),
         Err(InputFault::Read) => return Err(Stop::Read),
         Err(InputFault::Memory) => return Err(Stop::Memory),
-    }
-    match untried_report(alloc, &unit) {
+    };
+    match report_of(alloc, &props, changes) {
         Ok(text) => Ok(text),
         Err(AllocError) => Err(Stop::Memory),
     }
 }
 
-/// The report on a program of which nobody has said anything.
-fn untried_report(alloc: Global, unit: &Unit) -> Result<Vec<u8>, AllocError>
-    requires { length (rows_of unit.now) ≤ 65536 }
-    ensures { IfOk result (λ text. text.items ≡ untried_report unit.now) }
+/// The report on these properties and changes.
+fn report_of(alloc: Global, props: &PropTable, changes: Changes) -> Result<Vec<u8>, AllocError>
+    ensures { IfOk result (λ text. text.items ≡ report_of props.now changes) }
 {
-    let props = table(alloc, unit)?;
-    let verdicts = untried(alloc, props.rows())?;
-    report(alloc, &props, verdicts.as_slice(), false)
+    let history = history_of(changes);
+    let verdicts = full(alloc, &history, props)?;
+    report(alloc, props, verdicts.as_slice(), false)
 }
 
-/// For each of these properties, that nobody has said anything.
-fn untried(alloc: Global, props: &[Prop]) -> Result<Vec<Verdict>, AllocError>
-    ensures { IfOk result (λ verdicts. verdicts.items ≡ untried props.now) }
+/// The history of these changes.
+fn history_of(changes: Changes) -> History
+    ensures { result ≡ history_of changes }
 {
-    let mut verdicts = Vec::new(alloc);
-    for _ in props {
-        verdicts.push(Verdict::NeverTried)?;
+    History {
+        opening: ParamValues::opening(MAIN, false),
+        changes,
     }
-    Ok(verdicts)
 }

@@ -1,16 +1,19 @@
 //! The files that a call names.
 
-ghost use Rattle.std.specs.Prelude.{◌≡◌, ◌≤◌, IfOk, IfSome, length};
-ghost use Rattle.std.specs.List.{list_all};
+ghost use Rattle.std.specs.Prelude.{◌≡◌, ◌≤◌, [], IfOk, IfSome, length};
 ghost use Rattle.std.specs.Result.{IsErrOf};
 ghost use Rattle.c_front.specs.Rows.{rows_of};
 ghost use Rattle.fc_outside.specs.Causes.{Rose};
 ghost use Rattle.fc_outside.specs.Contents.{told_contents};
-ghost use Rattle.kernel_serve.specs.Batch.{is_blank, is_blank_script};
-ghost use Rattle.kernel_serve.specs.Steps.{IsTree, IsBlank};
+ghost use Rattle.kernel_serve.specs.Script.{changes_of, lines_of, with_lines};
+ghost use Rattle.kernel_serve.specs.Steps.{GivesChanges, IsScript, IsTree};
 
+use crate::accepted::{Accepted, LineFault};
+use crate::lines::first_line;
 use c_front::{MOST_BYTES, Unit, UnitFault, unit};
+use c_ir::PropTable;
 use fc_outside::{ReadError, Shelf, read_all};
+use status_history::Changes;
 use std::alloc::Global;
 
 /// Why a named file gave nothing.
@@ -49,14 +52,15 @@ where
     }
 }
 
-/// Reads the named script; Refused where it isn't blank.
-pub(crate) fn read_blank<F: Shelf>(
+/// The changes of the named script; Refused where its bytes are no script that is allowed.
+pub(crate) fn changes_in<F: Shelf>(
     alloc: Global,
     shelf: &mut F,
     name: &str,
-) -> Result<(), InputFault>
+    props: &PropTable,
+) -> Result<Changes, InputFault>
 where
-    ensures told { IfSome (told_contents name.now (F.files shelf.old)) (λ bytes. IsBlank bytes result) }
+    ensures told { IfSome (told_contents name.now (F.files shelf.old)) (λ bytes. IsScript props.now.rows bytes result) }
     ensures files { F.files shelf.new ≡ F.files shelf.old }
     ensures never_fails { F.never_fails shelf.new ≡ F.never_fails shelf.old }
     ensures later { F.faults shelf.old ≤ F.faults shelf.new }
@@ -67,32 +71,38 @@ where
         Err(ReadError::Fault) => return Err(InputFault::Read),
         Err(ReadError::Memory) => return Err(InputFault::Memory),
     };
-    if is_blank_script(bytes.as_slice()) {
-        Ok(())
+    match changes_of(alloc, props, bytes.as_slice()) {
+        Ok(changes) => Ok(changes),
+        Err(LineFault::Refused) => Err(InputFault::Refused),
+        Err(LineFault::Memory) => Err(InputFault::Memory),
+    }
+}
+
+/// The changes of a script.
+#[tactic(auto, unfolding(crate::specs::Script::changes_of))]
+fn changes_of(alloc: Global, props: &PropTable, text: &[u8]) -> Result<Changes, LineFault>
+    ensures { GivesChanges (changes_of props.now.rows text.now) result }
+{
+    if text.len() <= MOST_BYTES {
+        changes_of_lines(alloc, props, text)
     } else {
-        Err(InputFault::Refused)
+        Err(LineFault::Refused)
     }
 }
 
-fn is_blank_script(bytes: &[u8]) -> bool
-    ensures { result ≡ is_blank_script bytes.now }
+/// The changes of the lines of a text, in order.
+fn changes_of_lines(alloc: Global, props: &PropTable, text: &[u8]) -> Result<Changes, LineFault>
+    ensures { GivesChanges (with_lines props.now.rows [] (lines_of text.now)) result }
 {
-    bytes.len() <= MOST_BYTES && are_blank(bytes)
-}
-
-fn are_blank(bytes: &[u8]) -> bool
-    ensures { result ≡ list_all is_blank bytes.now }
-{
-    for byte in bytes {
-        if !is_blank(*byte) {
-            return false;
-        }
+    let mut accepted = Accepted::new(alloc);
+    let mut rest = Some(text);
+    'lines: while let Some(text) = rest {
+        let (line, more) = first_line(text);
+        accepted = match accepted.with_line(props, line) {
+            Ok(accepted) => accepted,
+            Err(fault) => return Err(fault),
+        };
+        rest = more;
     }
-    true
-}
-
-fn is_blank(byte: u8) -> bool
-    ensures { result ≡ is_blank byte }
-{
-    byte == b' ' || 9 <= byte && byte <= 13
+    Ok(accepted.into_changes())
 }

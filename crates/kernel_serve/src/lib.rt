@@ -1,8 +1,10 @@
 //! A call: its words, the files that it names, what it writes and how it ends.
 #![tactic(auto)]
 
+mod accepted;
 mod batch;
 mod inputs;
+mod lines;
 mod status;
 mod words;
 

@@ -1,3 +1,7 @@
+//! Calls over files and sinks in memory.
+
+mod scripts;
+
 use super::*;
 use fc_outside::{MemFile, MemShelf, MemSink};
 use sqlite_items::Items;
@@ -140,7 +144,7 @@ fn what_is_no_program_is_refused(rt: HostRuntime) -> Result<(), Fail> {
 }
 
 #[test]
-fn scripts_are_blank(rt: HostRuntime) -> Result<(), Fail> {
+fn blank_scripts_say_nothing(rt: HostRuntime) -> Result<(), Fail> {
     let cases = [
         ("", true),
         (" \t\r\n\x0b\x0c\n", true),

@@ -1,0 +1,13 @@
+//! The lines of an event script, which is a list of JSON objects, one a line.
+#![tactic(auto)]
+
+mod emission;
+mod fault;
+mod names;
+mod script;
+#[cfg(test)]
+mod tests;
+mod value;
+
+pub use fault::ScriptFault;
+pub use script::{Analyser, Script, Wanted};

@@ -1,7 +1,0 @@
-use Rattle.std.proofs.Common.{◌≡◌, drop}
-use Rattle.std.specs.List.{list_all}
-use Rattle.kernel_serve.specs.Batch.{is_blank}
-use Rattle.kernel_serve.proofs.inputs.are_blank.Given as goal
-
-abbrev pub invariant-loop-byte : goal.invariant-loop-byte
-invariant-loop-byte l = list_all is_blank (drop l.byte-index l.bytes) ≡ list_all is_blank l.fn.bytes
