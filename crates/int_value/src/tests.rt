@@ -6,9 +6,10 @@ use super::*;
 use int_congr::Congr;
 use int_interval::{Interval, Said, Shape};
 use machine_ints::{
-    and, difference, negative, not, or, product, quotient, remainder, shifted_left, shifted_right,
-    sum, to_bool, wrap, xor,
+    and, differ_by_multiple, difference, negative, not, or, product, quotient, remainder, residue,
+    shifted_left, shifted_right, sum, to_bool, wrap, xor,
 };
+use std::alloc::{AllocError, Global};
 use std::{assert, assert_eq};
 
 fn signed_small() -> Shape
@@ -288,113 +289,125 @@ fn is_right(said: Said, fact: bool) -> bool {
     }
 }
 
-fn is_mark_right(said: Option<Said>, fact: bool) -> bool {
-    match said {
-        Some(said) => is_right(said, fact),
-        None => true,
+/// Whether a check is made where there is a fact to it, and what is said is true of that fact.
+fn is_mark_right(said: Option<Said>, fact: Option<bool>) -> bool {
+    match (said, fact) {
+        (Some(said), Some(fact)) => is_right(said, fact),
+        (None, None) => true,
+        _ => false,
     }
 }
 
-/// Whether the value has the number, if there is one.
-fn has(value: &Value, number: Option<i128>) -> bool {
-    match number {
-        Some(number) => value.contains(number),
-        None => false,
+fn is_in_range(range: Interval, number: i128) -> bool {
+    match range {
+        Interval::Empty => false,
+        Interval::Within { lo, hi } => lo <= number && number <= hi,
+        Interval::All => true,
     }
 }
 
-/// Whether the operator's answer stands for this exact result, and its check is right.
-fn stands(made: &Made, exact: Option<i128>, shape: &Shape, overflow: bool) -> bool
+/// Whether the value stands for the number, by its parts.
+fn has(value: &Value, number: i128) -> bool {
+    is_in_range(value.range, number)
+        && differ_by_multiple(number, value.congr.rem, value.congr.modulus.unsigned_abs())
+}
+
+/// Whether the value stands for an exact result: for itself where it passes a check that is made, and for what it
+/// is in the type where none is made.
+fn stands(value: &Value, exact: Option<i128>, passes: Option<bool>, shape: &Shape) -> bool
     requires { IsShape shape.now }
 {
-    match exact {
-        None => false,
-        Some(exact) => {
-            let fits = shape.lo <= exact && exact <= shape.hi;
-            if shape.lo < 0 && overflow {
-                is_mark_right(made.first, fits) && (!fits || made.value.contains(exact))
-            } else {
-                made.first.is_none() && made.value.contains(wrap(exact, shape.lo, shape.width))
-            }
-        }
+    match (exact, passes) {
+        (Some(exact), Some(passes)) => !passes || has(value, exact),
+        (Some(exact), None) => has(value, wrap(exact, shape.lo, shape.width)),
+        (None, _) => false,
     }
 }
 
+/// The same of an operator whose one check is that the exact result is in the type.
+fn is_typed(made: &Made, exact: Option<i128>, shape: &Shape, checked: bool) -> bool
+    requires { IsShape shape.now }
+{
+    let passes = exact >= Some(shape.lo) && exact <= Some(shape.hi);
+    let fact = fact_if(checked, passes);
+    is_mark_right(made.first, fact)
+        && made.second.is_none()
+        && stands(&made.value, exact, fact, shape)
+}
+
+/// The fact, of a check that is made.
+fn fact_if(checked: bool, fact: bool) -> Option<bool> {
+    if checked { Some(fact) } else { None }
+}
+
+/// `+ - *`, and unary `-`.
 fn arithmetic_stands(a: &Value, b: &Value, x: i128, y: i128, shape: &Shape, overflow: bool) -> bool
     requires { IsShape shape.now }
 {
-    stands(&a.add(b, shape, overflow), sum(x, y), shape, overflow)
-        && stands(
-            &a.sub(b, shape, overflow),
-            difference(x, y),
-            shape,
-            overflow,
-        )
-        && stands(&a.mul(b, shape, overflow), product(x, y), shape, overflow)
-        && stands(&a.neg(shape, overflow), negative(x), shape, overflow)
-        && a.convert(shape).contains(wrap(x, shape.lo, shape.width))
-        && a.to_bool().contains(to_bool(x))
+    let checked = shape.lo < 0 && overflow;
+    is_typed(&a.add(b, shape, overflow), sum(x, y), shape, checked)
+        && is_typed(&a.sub(b, shape, overflow), difference(x, y), shape, checked)
+        && is_typed(&a.mul(b, shape, overflow), product(x, y), shape, checked)
+        && is_typed(&a.neg(shape, overflow), negative(x), shape, checked)
 }
 
+/// `/` and `%`.
 fn division_stands(a: &Value, b: &Value, x: i128, y: i128, shape: &Shape, overflow: bool) -> bool
     requires { IsShape shape.now }
 {
     let (quot, rest) = (a.div(b, shape, overflow), a.rem(b, shape, overflow));
-    if y == 0 {
-        return is_mark_right(quot.first, false) && is_mark_right(rest.first, false);
-    }
-    let fits = x != shape.lo || y != -1;
-    let marks = is_mark_right(quot.first, true)
-        && is_mark_right(quot.second, fits)
-        && is_mark_right(rest.second, fits);
-    if shape.lo < 0 && overflow {
-        marks
-            && (!fits || (has(&quot.value, quotient(x, y)) && rest.value.contains(remainder(x, y))))
-    } else {
-        marks && rest.value.contains(remainder(x, y)) && quot.second.is_none()
-    }
+    let passes = fact_if(shape.lo < 0 && overflow, x != shape.lo || y != -1);
+    is_mark_right(quot.first, Some(y != 0))
+        && is_mark_right(rest.first, Some(y != 0))
+        && is_mark_right(quot.second, passes)
+        && is_mark_right(rest.second, passes)
+        && (y == 0
+            || stands(&quot.value, quotient(x, y), passes, shape)
+                && stands(&rest.value, Some(remainder(x, y)), passes, shape))
 }
 
+/// `<<` and `>>`. What is said of the overflow of `<<` is of numbers that pass the check of the shift.
 fn shifts_stand(a: &Value, b: &Value, x: i128, y: i128, shape: &Shape, overflow: bool) -> bool
     requires { IsShape shape.now }
 {
     let (left, right) = (a.shl(b, shape, overflow), a.shr(b, shape, overflow));
     if y < 0 || 3 <= y {
-        return is_mark_right(left.first, false) && is_mark_right(right.first, false);
+        return is_mark_right(left.first, Some(false)) && is_mark_right(right.first, Some(false));
     }
-    let by = y as u32;
-    let product = shifted_left(x, by);
-    let fits = 0 <= x && product <= Some(shape.hi);
-    let marks = is_mark_right(left.first, true)
-        && is_mark_right(left.second, fits)
-        && is_mark_right(right.first, true);
-    marks && right.value.contains(shifted_right(x, by)) && (!fits || has(&left.value, product))
+    let exact = shifted_left(x, y as u32);
+    let passes = fact_if(shape.lo < 0 && overflow, 0 <= x && exact <= Some(shape.hi));
+    is_mark_right(left.first, Some(true))
+        && is_mark_right(left.second, passes)
+        && stands(&left.value, exact, passes, shape)
+        && is_mark_right(right.first, Some(true))
+        && right.second.is_none()
+        && has(&right.value, shifted_right(x, y as u32))
 }
 
-fn bits_stand(a: &Value, b: &Value, x: i128, y: i128, shape: &Shape) -> bool
+/// `& | ^`, `~` and the relations.
+fn bits_stand(a: &Value, b: &Value, x: i128, y: i128, shape: &Shape, overflow: bool) -> bool
     requires { IsShape shape.now }
 {
-    a.and(b, shape, true).value.contains(and(x, y))
-        && a.or(b, shape, true).value.contains(or(x, y))
-        && a.xor(b, shape, true).value.contains(xor(x, y))
-        && a.invert(shape, true)
-            .value
-            .contains(wrap(not(x), shape.lo, shape.width))
+    has(&a.and(b, shape, overflow).value, and(x, y))
+        && has(&a.or(b, shape, overflow).value, or(x, y))
+        && has(&a.xor(b, shape, overflow).value, xor(x, y))
+        && stands(&a.invert(shape, overflow).value, Some(not(x)), None, shape)
         && is_right(a.less(b), x < y)
         && is_right(a.less_eq(b), x <= y)
         && is_right(a.equal(b), x == y)
-        && a.join(b).contains(x)
-        && a.join(b).contains(y)
 }
 
-/// The small value with these parts.
-fn small(lo: i128, hi: i128, rem: i128, modulus: i128) -> Value {
-    Value {
-        range: Interval::Within { lo, hi },
-        congr: Congr { rem, modulus },
-        unset: false,
-    }
-    .reduce()
+/// Membership, meet, join, inclusion and the conversions, by a number that need not be of either value.
+fn sets_stand(a: &Value, b: &Value, x: i128, other: &Shape) -> bool
+    requires { IsShape other.now }
+{
+    let (in_a, in_b) = (has(a, x), has(b, x));
+    a.contains(x) == in_a
+        && has(&a.meet(&b.range), x) == (in_a && is_in_range(b.range, x))
+        && (has(&a.join(b), x) || !in_a && !in_b)
+        && (!a.included(b) || !in_a || in_b)
+        && (!in_a
+            || stands(&a.convert(other), Some(x), None, other) && has(&a.to_bool(), to_bool(x)))
 }
 
 /// A 3-bit type.
@@ -408,33 +421,22 @@ fn small_shape(signed: bool) -> Shape
     }
 }
 
-fn pair_stands(a: &Value, b: &Value, x: i128, y: i128, signed: bool, overflow: bool) -> bool {
-    let shape = small_shape(signed);
-    if a.contains(x) && b.contains(y) {
-        arithmetic_stands(a, b, x, y, &shape, overflow)
-            && division_stands(a, b, x, y, &shape, overflow)
-            && shifts_stand(a, b, x, y, &shape, overflow)
-            && bits_stand(a, b, x, y, &shape)
-    } else {
-        true
-    }
-}
-
 /// The number from -4 on.
 fn nth(index: u32) -> i128 {
     i128::from(index) - 4
 }
 
-/// Whether there is an interval of the type with these ends.
-fn is_in_type(lo: i128, hi: i128, signed: bool) -> bool {
-    let shape = small_shape(signed);
-    shape.lo <= lo && lo <= hi && hi <= shape.hi
-}
-
-fn all_stand(a: &Value, b: &Value, signed: bool, overflow: bool) -> bool {
-    for x in 0..12u32 {
-        for y in 0..12u32 {
-            if !pair_stands(a, b, nth(x), nth(y), signed, overflow) {
+/// All operators on two values of the type, for each pair of their numbers.
+fn pair_stands(a: &Value, b: &Value, signed: bool, overflow: bool) -> bool {
+    let (shape, other) = (small_shape(signed), small_shape(!signed));
+    for i in 0..12u32 {
+        let x = nth(i);
+        if !sets_stand(a, b, x, &other) {
+            return false;
+        }
+        for j in 0..12u32 {
+            let y = nth(j);
+            if has(a, x) && has(b, y) && !operators_stand(a, b, x, y, &shape, overflow) {
                 return false;
             }
         }
@@ -442,38 +444,88 @@ fn all_stand(a: &Value, b: &Value, signed: bool, overflow: bool) -> bool {
     true
 }
 
-/// The value against the values of the type with these moduli.
-fn stands_with_all(a: &Value, signed: bool, overflow: bool) -> bool {
-    for lo in 0..12u32 {
-        for hi in 0..12u32 {
-            for modulus in 1..3u32 {
-                let b = small(nth(lo), nth(hi), 1, i128::from(modulus));
-                if is_in_type(nth(lo), nth(hi), signed) && !all_stand(a, &b, signed, overflow) {
-                    return false;
-                }
-            }
-        }
-    }
-    true
+fn operators_stand(a: &Value, b: &Value, x: i128, y: i128, shape: &Shape, overflow: bool) -> bool
+    requires { IsShape shape.now }
+{
+    arithmetic_stands(a, b, x, y, shape, overflow)
+        && division_stands(a, b, x, y, shape, overflow)
+        && shifts_stand(a, b, x, y, shape, overflow)
+        && bits_stand(a, b, x, y, shape, overflow)
 }
 
-fn type_stands(signed: bool, overflow: bool) -> bool {
-    for lo in 0..12u32 {
-        for hi in 0..12u32 {
-            for modulus in 1..4u32 {
-                let a = small(nth(lo), nth(hi), 2, i128::from(modulus));
-                if is_in_type(nth(lo), nth(hi), signed) && !stands_with_all(&a, signed, overflow) {
-                    return false;
-                }
+/// The first pair of these values on which an operator is wrong.
+fn first_wrong(values: &[Value], signed: bool, overflow: bool) -> Option<(Value, Value)> {
+    for a in values {
+        for b in values {
+            if !pair_stands(a, b, signed, overflow) {
+                return Some((*a, *b));
             }
         }
     }
-    true
+    None
+}
+
+/// Adds the reduction of these parts, where it isn't among the values.
+fn push_reduced(
+    values: &mut Vec<Value>,
+    range: Interval,
+    rem: i128,
+    modulus: i128,
+) -> Result<(), AllocError> {
+    let value = Value {
+        range,
+        congr: Congr { rem, modulus },
+        unset: false,
+    }
+    .reduce();
+    if !values.contains(&value) {
+        values.push(value)?;
+    }
+    Ok(())
+}
+
+/// The distinct reductions of an interval with each congruence of a modulus up to 8.
+fn push_congruences(values: &mut Vec<Value>, range: Interval) -> Result<(), AllocError> {
+    for index in 0..12u32 {
+        push_reduced(values, range, nth(index), 0)?;
+        for modulus in 1..9u32 {
+            let rem = residue(nth(index), u128::from(modulus)) as i128;
+            push_reduced(values, range, rem, i128::from(modulus))?;
+        }
+    }
+    Ok(())
+}
+
+/// All distinct reduced values of a 3-bit type: of each interval of its numbers with each congruence.
+fn small_values(alloc: Global, signed: bool) -> Result<Vec<Value>, AllocError> {
+    let shape = small_shape(signed);
+    let mut values = Vec::new(alloc);
+    for i in 0..12u32 {
+        for j in 0..12u32 {
+            let (lo, hi) = (nth(i), nth(j));
+            if shape.lo <= lo && lo <= hi && hi <= shape.hi {
+                push_congruences(&mut values, Interval::Within { lo, hi })?;
+            }
+        }
+    }
+    Ok(values)
+}
+
+/// Of a 3-bit type there are the empty value, 8 single numbers and 57 runs of several at one distance.
+#[test]
+fn all_signed_values(rt: HostRuntime) -> Result<(), AllocError> {
+    let values = small_values(rt.alloc(), true)?;
+    assert_eq!(rt; values.len(), 66);
+    assert_eq!(rt; first_wrong(&values, true, true), None);
+    assert_eq!(rt; first_wrong(&values, true, false), None);
+    Ok(())
 }
 
 #[test]
-fn all_small_values(rt: HostRuntime) {
-    assert!(rt; type_stands(true, true));
-    assert!(rt; type_stands(true, false));
-    assert!(rt; type_stands(false, true));
+fn all_unsigned_values(rt: HostRuntime) -> Result<(), AllocError> {
+    let values = small_values(rt.alloc(), false)?;
+    assert_eq!(rt; values.len(), 66);
+    assert_eq!(rt; first_wrong(&values, false, true), None);
+    assert_eq!(rt; first_wrong(&values, false, false), None);
+    Ok(())
 }
