@@ -16,13 +16,16 @@ const SIGNED: Shape = Shape {
     width: 64,
 };
 
-/// The multiples of 3 from `lo`, rounded up, to a million.
-fn operand(lo: u32) -> Value {
+/// The multiples of `modulus` from `lo`, rounded up, to a million, rounded down.
+fn operand(lo: u32, modulus: u32) -> Value {
     let range = Interval::Within {
         lo: i128::from(lo),
         hi: 1_000_000,
     };
-    let congr = Congr { rem: 0, modulus: 3 };
+    let congr = Congr {
+        rem: 0,
+        modulus: i128::from(modulus),
+    };
     let value = Value {
         range,
         congr,
@@ -80,8 +83,8 @@ fn mark(value: &Value) -> u64 {
 fn step(name: &str, turn: u32, shape: &Shape) -> Option<u64>
     requires { IsShape shape.now }
 {
-    let left = operand(turn % 1000);
-    let right = operand(turn % 7);
+    let left = operand(turn % 1000, 2 + turn % 3);
+    let right = operand(turn % 7, 2 + turn % 5);
     match binary(name, &left, &right, shape) {
         Some(made) => Some(mark(&made.value)),
         None => Some(mark(&other(name, &left, &right, shape)?)),

@@ -1,5 +1,5 @@
 -- What reduction leaves.
-use Rattle.std.proofs.Common.{◌≡◌, ◌≢◌, ℤ, pos, ◌-ℤ◌, ◌≤ℤ◌, ◌<ℤ◌, unsigned_abs, int_le, int_lt, FitsSigned, Bool, true, false, cond, ◌⊎◌, refl, ap, arith, inl, inr, ⊎_elim}
+use Rattle.std.proofs.Common.{◌≡◌, ◌≢◌, ℤ, pos, ◌-ℤ◌, ◌≤ℤ◌, ◌<ℤ◌, unsigned_abs, int_le, int_lt, FitsSigned, Bool, true, false, cond, ◌⊎◌, refl, ap, ◌∙◌, arith, inl, inr, ⊎_elim}
 use Rattle.std.specs.Int.{w128, int_min, int_max}
 use Rattle.std.proofs.lemmas.Int.{ints, clamps}
 use Rattle.std.proofs.lemmas.Bool.{and_parts, eqb-false}
@@ -12,7 +12,7 @@ use Rattle.int_congr.specs.declared.congr.Congr.{Congr}
 use Rattle.int_congr.specs.Rows as congrs
 use Rattle.int_value.specs.declared.value.Value.{Value}
 use Rattle.int_value.specs.Checks.{shift_of}
-use Rattle.int_value.specs.Rows.{value_of, empty_of, one_of, is_in, raised_to, lowered_to, between, reduced, reduced_range, meet_row}
+use Rattle.int_value.specs.Rows.{value_of, empty_of, one_of, is_in, raised_to, lowered_to, between, reduced, reduced_range, answer_of, meet_row}
 
 pub between_empty : (lo hi : ℤ) (c : Congr) (unset : Bool) → hi <ℤ lo → empty_of unset ≡ between lo hi c unset
 between_empty lo hi c unset h = let e : true ≡ int_lt hi lo = omega (arith, ints) in ap (λ (b : Bool). cond b (empty_of unset) (cond (int_le hi lo) (one_of lo unset) (value_of (Within lo hi) c unset))) e
@@ -34,6 +34,32 @@ lowered_past lo hi c f g n = by_fit (raised_to c lo) (lowered_to c hi) n (omega 
 pub choose : (P : Value → Type 0) (b : Bool) (s t : Value) → (b ≡ true → P s) → (b ≡ false → P t) → P (cond b s t)
 choose P true s t f g = f refl
 choose P false s t f g = g refl
+
+-- the flag is a part by itself
+flagged : (unset b : Bool) (s t v w : Value) → value_of s.range s.congr unset ≡ v → value_of t.range t.congr unset ≡ w → value_of (cond b s t).range (cond b s t).congr unset ≡ cond b v w
+flagged unset true s t v w e f = e
+flagged unset false s t v w e f = f
+
+within_flag : (lo hi : ℤ) (c : Congr) (unset : Bool) → value_of (reduced lo hi c false).range (reduced lo hi c false).congr unset ≡ reduced lo hi c unset
+unfolding reduced
+within_flag lo hi c unset = flagged unset (congrs.is_only c) _ _ _ _ (flagged unset (is_in (Within lo hi) c.rem) _ _ _ _ refl refl)
+    (flagged unset (int_lt (lowered_to c hi) (raised_to c lo)) _ _ _ _ refl (flagged unset (int_le (lowered_to c hi) (raised_to c lo)) _ _ _ _ refl refl))
+
+pub reduced_flag : (p r : Interval) (q c : Congr) (unset : Bool) → value_of p q false ≡ reduced_range r c false → value_of p q unset ≡ reduced_range r c unset
+reduced_flag p r q c unset e = ap (λ (v : Value). value_of v.range v.congr unset) e ∙ by_range r
+  where
+    by_range : (r : Interval) → value_of (reduced_range r c false).range (reduced_range r c false).congr unset ≡ reduced_range r c unset
+    by_range Empty = refl
+    by_range (Within lo hi) = within_flag lo hi c unset
+    by_range All = refl
+
+pub answer_flag : (p r : Interval) (q c : Congr) (unset : Bool) → value_of p q false ≡ answer_of r c false → value_of p q unset ≡ answer_of r c unset
+answer_flag p r q c unset e = ap (λ (v : Value). value_of v.range v.congr unset) e ∙ by_range r
+  where
+    by_range : (r : Interval) → value_of (answer_of r c false).range (answer_of r c false).congr unset ≡ answer_of r c unset
+    by_range Empty = refl
+    by_range (Within lo hi) = within_flag lo hi c unset
+    by_range All = refl
 
 -- what is left between two numbers: nothing, or an interval there; a single number of the congruence is there too
 abbrev pub IsPart : ℤ → ℤ → Interval → Congr → Type 0

@@ -1,6 +1,6 @@
 //! `<<` and `>>` with their checks.
 
-ghost use Rattle.std.specs.Prelude.{◌≡◌, ◌&&◌, ◌||◌, pos, if◌then◌else◌};
+ghost use Rattle.std.specs.Prelude.{◌≡◌, ◌&&◌, ◌||◌, IsTrue, pos, if◌then◌else◌};
 ghost use Rattle.int_congr.specs.Rows as congrs;
 ghost use Rattle.int_interval.specs.Shapes.{IsShape, IsShift};
 ghost use Rattle.int_value.specs.Checks.{
@@ -32,12 +32,7 @@ impl Value {
     {
         let by = shift(other, shape);
         let whole = self.shifted_left(&by, shape);
-        let part = self
-            .meet(&Interval::Within {
-                lo: 0,
-                hi: shape.hi,
-            })
-            .shifted_left(&by, shape);
+        let part = self.shifted_part(&by, whole, shape);
         left_shift(self, other, whole, part, shape, overflow)
     }
 
@@ -67,6 +62,25 @@ impl Value {
         )
     }
 
+    /// The same of the part from 0 to the greatest number; what is its own part isn't shifted again.
+    fn shifted_part(&self, by: &Value, whole: Value, shape: &Shape) -> Value
+        requires shape { IsShape shape.now }
+        requires range { IsShift shape.now by.now.range }
+        requires congr { congrs.IsShift shape.now by.now.congr }
+        requires whole { whole ≡ shl_raw self.now by.now }
+        ensures { result ≡ shl_raw (clipped shape.now self.now) by.now }
+    {
+        let part = self.meet(&Interval::Within {
+            lo: 0,
+            hi: shape.hi,
+        });
+        if is_same(self, &part) {
+            whole
+        } else {
+            part.shifted_left(by, shape)
+        }
+    }
+
     fn shifted_right(&self, by: &Value, shape: &Shape) -> Value
         requires shape { IsShape shape.now }
         requires range { IsShift shape.now by.now.range }
@@ -78,6 +92,22 @@ impl Value {
             self.congr.shr(&by.congr, shape),
             false,
         )
+    }
+}
+
+/// Whether the two are one value, of more than no number and less than all.
+fn is_same(left: &Value, right: &Value) -> bool
+    ensures { IsTrue result → left.now ≡ right.now }
+{
+    match (left.range, right.range) {
+        (Interval::Within { lo: a, hi: b }, Interval::Within { lo: c, hi: d }) => {
+            a == c
+                && b == d
+                && left.congr.rem == right.congr.rem
+                && left.congr.modulus == right.congr.modulus
+                && left.unset == right.unset
+        }
+        _ => false,
     }
 }
 

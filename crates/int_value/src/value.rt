@@ -19,6 +19,7 @@ ghost use Rattle.int_value.specs.Rows.{
   reduce_row,
   reduced,
   reduced_range,
+  value_of,
 };
 
 use int_congr::Congr;
@@ -66,14 +67,11 @@ pub(crate) fn one(number: i128, unset: bool) -> Value
 pub(crate) fn answer(range: Interval, congr: Congr, unset: bool) -> Value
     ensures { result ≡ answer_of range congr unset }
 {
-    match range {
-        Interval::Empty => empty(unset),
-        Interval::Within { lo, hi } => reduced_within(lo, hi, congr, unset),
-        Interval::All => Value {
-            range,
-            congr: Congr { rem: 0, modulus: 1 },
-            unset,
-        },
+    let (range, congr) = answer_pair(range, congr);
+    Value {
+        range,
+        congr,
+        unset,
     }
 }
 
@@ -81,37 +79,79 @@ pub(crate) fn answer(range: Interval, congr: Congr, unset: bool) -> Value
 pub(crate) fn reduced_parts(range: Interval, congr: Congr, unset: bool) -> Value
     ensures { result ≡ reduced_range range congr unset }
 {
-    match range {
-        Interval::Empty => empty(unset),
-        Interval::Within { lo, hi } => reduced_within(lo, hi, congr, unset),
-        Interval::All => Value {
-            range,
-            congr,
-            unset,
-        },
+    let (range, congr) = reduced_pair(range, congr);
+    Value {
+        range,
+        congr,
+        unset,
     }
 }
 
+/// The interval and the congruence of an answer. The flag is added to them once, in the caller: whole values handed
+/// from function to function would cost more time than the reduction itself.
+fn answer_pair(range: Interval, congr: Congr) -> (Interval, Congr)
+    ensures { value_of result.0 result.1 false ≡ answer_of range congr false }
+{
+    match range {
+        Interval::Empty => nothing(),
+        Interval::Within { lo, hi } => reduced_within(lo, hi, congr),
+        Interval::All => (range, Congr { rem: 0, modulus: 1 }),
+    }
+}
+
+/// The interval and the congruence of what is reduced.
+fn reduced_pair(range: Interval, congr: Congr) -> (Interval, Congr)
+    ensures { value_of result.0 result.1 false ≡ reduced_range range congr false }
+{
+    match range {
+        Interval::Empty => nothing(),
+        Interval::Within { lo, hi } => reduced_within(lo, hi, congr),
+        Interval::All => (range, congr),
+    }
+}
+
+/// The parts of no number.
+fn nothing() -> (Interval, Congr)
+    ensures { value_of result.0 result.1 false ≡ empty_of false }
+{
+    (Interval::Empty, Congr { rem: 0, modulus: 1 })
+}
+
+/// The parts of one number.
+fn only(number: i128) -> (Interval, Congr)
+    ensures { value_of result.0 result.1 false ≡ one_of number false }
+{
+    let range = Interval::Within {
+        lo: number,
+        hi: number,
+    };
+    let congr = Congr {
+        rem: number,
+        modulus: 0,
+    };
+    (range, congr)
+}
+
 #[tactic(auto, unfolding(crate::specs::Rows::reduced))]
-fn reduced_within(lo: i128, hi: i128, congr: Congr, unset: bool) -> Value
-    ensures { result ≡ reduced lo hi congr unset }
+fn reduced_within(lo: i128, hi: i128, congr: Congr) -> (Interval, Congr)
+    ensures { value_of result.0 result.1 false ≡ reduced lo hi congr false }
 {
     if congr.is_single() {
-        reduced_single(lo, hi, congr, unset)
+        reduced_single(lo, hi, congr)
     } else {
-        reduced_between(lo, hi, congr, unset)
+        reduced_between(lo, hi, congr)
     }
 }
 
 #[tactic(auto, unfolding(crate::specs::Rows::reduced))]
-fn reduced_single(lo: i128, hi: i128, congr: Congr, unset: bool) -> Value
+fn reduced_single(lo: i128, hi: i128, congr: Congr) -> (Interval, Congr)
     requires { is_only congr ≡ true }
-    ensures { result ≡ reduced lo hi congr unset }
+    ensures { value_of result.0 result.1 false ≡ reduced lo hi congr false }
 {
     if is_from_to(congr.rem, lo, hi) {
-        one(congr.rem, unset)
+        only(congr.rem)
     } else {
-        empty(unset)
+        nothing()
     }
 }
 
@@ -122,15 +162,15 @@ fn is_from_to(number: i128, lo: i128, hi: i128) -> bool
     lo <= number && number <= hi
 }
 
-fn reduced_between(lo: i128, hi: i128, congr: Congr, unset: bool) -> Value
+fn reduced_between(lo: i128, hi: i128, congr: Congr) -> (Interval, Congr)
     requires { is_only congr ≡ false }
-    ensures { result ≡ between (raised_to congr lo) (lowered_to congr hi) congr unset }
+    ensures { value_of result.0 result.1 false ≡ between (raised_to congr lo) (lowered_to congr hi) congr false }
 {
     match raised(lo, congr) {
-        None => empty(unset),
+        None => nothing(),
         Some(least) => match lowered(hi, congr) {
-            None => empty(unset),
-            Some(greatest) => ends_between(least, greatest, congr, unset),
+            None => nothing(),
+            Some(greatest) => ends_between(least, greatest, congr),
         },
     }
 }
@@ -151,19 +191,15 @@ fn lowered(hi: i128, congr: Congr) -> Option<i128>
     hi.checked_sub_unsigned(residue_of_difference(hi, congr.rem, congr.period()))
 }
 
-fn ends_between(lo: i128, hi: i128, congr: Congr, unset: bool) -> Value
-    ensures { result ≡ between lo hi congr unset }
+fn ends_between(lo: i128, hi: i128, congr: Congr) -> (Interval, Congr)
+    ensures { value_of result.0 result.1 false ≡ between lo hi congr false }
 {
     if hi < lo {
-        empty(unset)
+        nothing()
     } else if hi <= lo {
-        one(lo, unset)
+        only(lo)
     } else {
-        Value {
-            range: Interval::Within { lo, hi },
-            congr,
-            unset,
-        }
+        (Interval::Within { lo, hi }, congr)
     }
 }
 

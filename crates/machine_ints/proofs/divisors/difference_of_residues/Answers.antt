@@ -1,7 +1,7 @@
 use Rattle.std.proofs.Common.{arith}
 use Rattle.std.proofs.lemmas.Int.{to_z-of_z}
 use Rattle.machine_ints.proofs.Residues.{residue-sub, residue-sub_over}
-use Rattle.machine_ints.proofs.divisors.residue_of_difference.Goals as goal
+use Rattle.machine_ints.proofs.divisors.difference_of_residues.Goals as goal
 
 pub returns-then-below-above-clause-value : goal.returns-then-below-above-clause-value
 returns-then-below-above-clause-value c = grind (arith, to_z-of_z, residue-sub)
