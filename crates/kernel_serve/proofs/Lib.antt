@@ -1,3 +1,4 @@
 pub mod Emitters
 pub mod FirstLine
 pub mod Whole
+pub mod Reported

@@ -5,3 +5,4 @@ pub mod Script
 pub mod Known
 pub mod Batch
 pub mod Steps
+pub mod Truth

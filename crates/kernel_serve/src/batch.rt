@@ -7,10 +7,12 @@ ghost use Rattle.fc_outside.specs.Contents.{contents_of};
 ghost use Rattle.kernel_serve.specs.Words.{line_of};
 ghost use Rattle.kernel_serve.specs.Batch.{history_of, report_of, IsReport, OutcomeIfTold, WrittenOnly};
 ghost use Rattle.kernel_serve.specs.Steps.{StopsFor};
+ghost use Rattle.kernel_serve.specs.Truth.{TrueIfTold};
 
 use crate::inputs::{InputFault, changes_in, tree_of};
 use crate::status::{FrontFault, Input, Status};
 use crate::words::named_files;
+use c_first_runs::program_verdicts_are_true;
 use c_front::table;
 use c_ir::PropTable;
 use fc_base::ParamValues;
@@ -48,6 +50,9 @@ pub(crate) enum Stop {
 /// verdicts that these changes come to (`status_rules::full`) is written, and all of it at Done. ReadFault and
 /// WriteFault come only where the shelf or the sink had a fault, and Memory where there was no memory; at
 /// WriteFault the sink holds a first part of the report, else nothing of it.
+///
+/// At Done, where the entries that count are locally right over the runs of the program (each status follows from
+/// its hypotheses; after Correnson and Signoles), each printed verdict is true of these runs (clause `truth`).
 pub fn report_run<F: Shelf, S: Sink>(
     alloc: Global,
     words: &[String],
@@ -57,6 +62,7 @@ pub fn report_run<F: Shelf, S: Sink>(
 where
     ensures usage { (result ≡ Status.Usage) ↔ (line_of (map string_bytes words.now) ≡ None) }
     ensures outcome { OutcomeIfTold (map string_bytes words.now) (F.files shelf.old) (S.held out.old) (S.held out.new) result }
+    ensures truth { TrueIfTold (map string_bytes words.now) (F.files shelf.old) (S.held out.old) (S.held out.new) result }
     ensures unwritten { WrittenOnly (S.held out.old) (S.held out.new) result }
     ensures read { result ≡ Status.ReadFault → Rose (F.faults shelf.old) (F.faults shelf.new) }
     ensures write { result ≡ Status.WriteFault → Rose (S.faults out.old) (S.faults out.new) }
@@ -74,6 +80,7 @@ where
         Err(Stop::Read) => return Status::ReadFault,
         Err(Stop::Memory) => return Status::Memory,
     };
+    program_verdicts_are_true();
     match write_all(out, text.as_slice()) {
         Ok(()) => Status::Done,
         Err(WriteFault) => Status::WriteFault,

@@ -1,0 +1,4 @@
+pub mod Evaluation
+pub mod Run
+pub mod RunLaws
+pub mod Tracing
