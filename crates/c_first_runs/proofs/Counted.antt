@@ -106,7 +106,7 @@ parts_length k (p ∷ ps) =
     omega (arith, long, part_length k p, parts_length (k + 1) ps)
 
 -- a program's run, with numbers that are counted along
-counted_run : (overflow : Bool) (u : Unit) (left : ℕ) → unit_visits overflow u (suc left) ≡ visit 0 false ∷ body_from overflow u.value 1 no_cells left u.parts
+pub counted_run : (overflow : Bool) (u : Unit) (left : ℕ) → unit_visits overflow u (suc left) ≡ visit 0 false ∷ body_from overflow u.value 1 no_cells left u.parts
 counted_run overflow u left =
     let all = rows_of u in
     let rest = rows_behind 1 u.parts u.last u.value u.exit in

@@ -6,3 +6,4 @@ pub mod Told
 pub mod Counted
 pub mod Stores
 pub mod Evaluating
+pub mod Order

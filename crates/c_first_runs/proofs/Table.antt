@@ -41,7 +41,7 @@ row_at id site (r ∷ rs) (suc p) prop h =
     let it = row_at (id + 1) (site + is_alarm r.kind) rs p prop h in
     record { row = it.row; place = it.place; kind = it.kind; point = it.point; firm = it.firm }
 
-passing : (test : Prop → Bool) (o : Option Prop) → some_row test o ≡ true → (prop : Prop) × (o ≡ Some prop) × (test prop ≡ true)
+pub passing : (test : Prop → Bool) (o : Option Prop) → some_row test o ≡ true → (prop : Prop) × (o ≡ Some prop) × (test prop ≡ true)
 passing test None h = absurd (false≢true h)
 passing test (Some prop) h = (prop, refl, h)
 
@@ -50,15 +50,15 @@ some_number None d h = absurd (none-some d h)
 some_number (Some n) d h = ap (λ (e : PropId). Some e.0) (same_Some (record { 0 = n }) d h)
 
 -- a property and the one of kind Dead at its point
-record Pair (rows : List Row) (p d : ℕ) : Type 0 where
-  row : Row
-  dead : Row
-  here : slice_get rows p ≡ Some row
-  there : slice_get rows d ≡ Some dead
-  is : is_dead dead.kind ≡ true
-  same : dead.point ≡ row.point
+pub record Pair (rows : List Row) (p d : ℕ) : Type 0 where
+  pub row : Row
+  pub dead : Row
+  pub here : slice_get rows p ≡ Some row
+  pub there : slice_get rows d ≡ Some dead
+  pub is : is_dead dead.kind ≡ true
+  pub same : dead.point ≡ row.point
 
-pair : (rows : List Row) (p : ℕ) (d : PropId) → dead_of (numbered 0 0 rows) p ≡ Some d → Pair rows p d.0
+pub pair : (rows : List Row) (p : ℕ) (d : PropId) → dead_of (numbered 0 0 rows) p ≡ Some d → Pair rows p d.0
 pair rows p d h =
     let props = numbered 0 0 rows in
     option_and_then_some (λ (prop : Prop). dead_at props prop.point.0) (slice_get props p) d h

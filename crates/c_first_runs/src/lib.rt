@@ -9,7 +9,7 @@ mod run;
 mod tests;
 mod trace;
 
-ghost use Rattle.c_first_runs.specs.RunLaws.{FewerArePrefix, ProgramVerdictsAreTrue, RunsKeepLaws, TableIsTold, VisitsAreRows};
+ghost use Rattle.c_first_runs.specs.RunLaws.{DeadComesFirst, FewerArePrefix, ProgramVerdictsAreTrue, RunsKeepLaws, TableIsTold, VisitsAreRows};
 
 pub use run::visits;
 use status_rules::verdicts_are_true;
@@ -18,6 +18,11 @@ pub use trace::Visit;
 /// The runs of a program keep the laws of runs over its table.
 pub fn runs_keep_laws()
     ensures { RunsKeepLaws }
+{}
+
+/// A run visits a property that isn't of kind Dead only behind the one of kind Dead at its point.
+pub fn dead_comes_first()
+    ensures { DeadComesFirst }
 {}
 
 /// The visits of a run with fewer arrivals stand first among those of one with more.

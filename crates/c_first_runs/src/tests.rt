@@ -1,8 +1,8 @@
 //! Runs of small programs against visits by hand, and verdicts against these runs.
 
 use crate::{
-    Visit, fewer_are_prefix, program_verdicts_are_true, runs_keep_laws, table_is_told, visits,
-    visits_are_rows,
+    Visit, dead_comes_first, fewer_are_prefix, program_verdicts_are_true, runs_keep_laws,
+    table_is_told, visits, visits_are_rows,
 };
 use c_front::{UnitFault, table, unit};
 use c_ir::{Prop, PropTable};
@@ -224,6 +224,7 @@ fn runs_visit_as_by_hand(rt: HostRuntime) -> Result<(), Fail> {
         assert!(rt; so, "in case {number}");
     }
     runs_keep_laws();
+    dead_comes_first();
     fewer_are_prefix();
     visits_are_rows();
     table_is_told();
