@@ -1,8 +1,9 @@
 //! A run of a program, by its visits.
 
-ghost use Rattle.std.specs.Prelude.{◌≡◌, ◌≤◌, ◌<◌, ◌+◌, ◌++◌, IfOk, OnOk, length, map};
+ghost use Rattle.std.specs.Prelude.{◌≡◌, ◌≤◌, ◌<◌, ◌+◌, ◌++◌, List, ℤ, IfOk, OnOk, length, map};
 ghost use Rattle.c_front.specs.Rows.{rows_of};
-ghost use Rattle.c_first_runs.specs.Run.{no_cells, exit_visits, part_course, storing, unit_visits};
+ghost use Rattle.status_rules.specs.Truth.{under};
+ghost use Rattle.c_first_runs.specs.Run.{no_cells, exit_visits, part_course, runs_of, storing, unit_visits};
 ghost use Rattle.c_first_runs.specs.Tracing.{Traces, behind_flow, body_from, held, last_from, numbers_from, part_count, parts_count, seen};
 
 use crate::cells::Cells;
@@ -10,13 +11,31 @@ use crate::evaluation::{evaluate, exact, relates};
 use crate::flow::Flow;
 use crate::trace::{Trace, Visit};
 use c_front::{Part, Sum, Unit};
-use fc_base::Name;
+use fc_base::{Name, ParamValues};
 use std::alloc::{AllocError, Global};
 
-/// The visits of the program's run with so many arrivals at points, from the entry of `main` on: at each point
-/// `dead`, and then its assert, or those alarms of its sum that the run comes to. Signed overflow is checked
-/// or not; where it is, the run ends in the first that comes.
+/// The visits of the program's run under these values of the parameters with so many arrivals at points, from the
+/// entry of `main` on: at each point `dead`, and then its assert, or those alarms of its sum that the run comes
+/// to. Parameter 2 says whether signed overflow is checked; where it is, the run ends in the first that comes (C11
+/// 6.5 paragraph 5). The program takes nothing from the input.
+#[tactic(auto, unfolding(crate::specs::Run::runs_of))]
 pub fn visits(
+    alloc: Global,
+    unit: &Unit,
+    values: &ParamValues,
+    arrivals: u32,
+) -> Result<Vec<Visit>, AllocError>
+    requires { length (rows_of unit.now) ≤ 65536 }
+    ensures { IfOk result (λ vs. (input : List ℤ) → map seen vs.items ≡ under (runs_of unit.now) values.now input arrivals) }
+{
+    run_visits(alloc, unit, values.get(SIGNED_OVERFLOW) != 0, arrivals)
+}
+
+/// The number of the parameter that says whether signed overflow is checked.
+const SIGNED_OVERFLOW: u8 = 2;
+
+/// The same, where signed overflow is checked or not.
+fn run_visits(
     alloc: Global,
     unit: &Unit,
     signed_overflow: bool,

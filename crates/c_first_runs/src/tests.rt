@@ -192,6 +192,13 @@ const CASES: [Case; 14] = [
     },
 ];
 
+/// The values of the parameters where overflow is checked or not.
+fn values(signed_overflow: bool) -> ParamValues {
+    let mut values = ParamValues::opening(0, false);
+    values.set(2, i64::from(signed_overflow));
+    values
+}
+
 /// Whether these are the first visits of a case, so many of them.
 fn are_first(found: &[Visit], case: Case, count: usize) -> bool {
     for (visit, expected) in found.iter().zip(case.visits.iter()) {
@@ -207,13 +214,13 @@ fn runs_so(alloc: Global, case: Case) -> Result<bool, UnitFault> {
     let unit = unit(alloc, case.text.as_bytes())?;
     let mut arrivals = 0u32;
     for count in case.cuts {
-        let found = visits(alloc, &unit, case.signed_overflow, arrivals)?;
+        let found = visits(alloc, &unit, &values(case.signed_overflow), arrivals)?;
         if !are_first(found.as_slice(), case, *count) {
             return Ok(false);
         }
         arrivals = arrivals.saturating_add(1);
     }
-    let whole = visits(alloc, &unit, case.signed_overflow, u32::MAX)?;
+    let whole = visits(alloc, &unit, &values(case.signed_overflow), u32::MAX)?;
     Ok(are_first(whole.as_slice(), case, case.visits.len()))
 }
 
@@ -375,7 +382,7 @@ fn answers_truly(
 fn holds_true(alloc: Global, case: Case) -> Result<bool, UnitFault> {
     let unit = unit(alloc, case.text.as_bytes())?;
     let props = table(alloc, &unit)?;
-    let run = visits(alloc, &unit, case.signed_overflow, u32::MAX)?;
+    let run = visits(alloc, &unit, &values(case.signed_overflow), u32::MAX)?;
     let mut history = opened(alloc, case.signed_overflow)?;
     for row in props.rows() {
         if !answers_truly(alloc, &mut history, &props, run.as_slice(), row.id)? {
@@ -403,7 +410,7 @@ fn a_wrong_entry_gives_a_wrong_verdict(rt: HostRuntime) -> Result<(), Fail> {
     let alloc = rt.alloc();
     let unit = unit(alloc, OVERFLOWS.as_bytes())?;
     let props = table(alloc, &unit)?;
-    let run = visits(alloc, &unit, true, u32::MAX)?;
+    let run = visits(alloc, &unit, &values(true), u32::MAX)?;
     let met = met_in(run.as_slice(), PropId(3));
     let mut history = opened(alloc, true)?;
     emit(alloc, &mut history, PropId(3), LocalStatus::True)?;

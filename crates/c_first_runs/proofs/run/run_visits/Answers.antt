@@ -1,7 +1,7 @@
 use Rattle.std.proofs.Common.{◌∙◌, ◌<◌, ap, arith}
 use Rattle.c_first_runs.specs.Tracing.{Traced}
 use Rattle.c_first_runs.proofs.Counted.{begun, rows_counted, whole_run}
-use Rattle.c_first_runs.proofs.run.visits.Goals as goal
+use Rattle.c_first_runs.proofs.run.run_visits.Goals as goal
 
 pub trace_body-requires : goal.trace_body-requires
 trace_body-requires c =
