@@ -11,7 +11,6 @@ use Rattle.event_script.specs.Lines.{change_of, emission_of, entry_of, line_of, 
 use Rattle.event_script.specs.Names.{emitter_named, is_blank_line, prop_named, reserved}
 use Rattle.event_script.specs.Reading.{◌>>=◌}
 use Rattle.event_script.specs.Values.{value_of}
-use Rattle.event_script.specs.declared.script.Wanted.{Wanted}
 use Rattle.event_script.specs.declared.script.Wanted.TheVariants.{Blank, Do}
 
 same_rest : {A B : Type 0} (o : Option A) (f g : A → Option B) → ((a : A) → f a ≡ g a) → (o >>= f) ≡ (o >>= g)

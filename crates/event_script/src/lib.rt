@@ -10,4 +10,5 @@ mod tests;
 mod value;
 
 pub use fault::ScriptFault;
+pub use names::reserved;
 pub use script::{Analyser, Script, Wanted};

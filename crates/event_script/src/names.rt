@@ -63,8 +63,9 @@ fn is_name_byte(byte: u8) -> bool
     byte.is_ascii_alphanumeric() || byte == b'_' || byte == b'-'
 }
 
-/// The emitter that has a name from the start.
-pub(crate) fn reserved(name: &str) -> Option<EmitterId>
+/// The emitter that has a name from the start: 0 `kernel`, 1 `rte`, 2 `eva`, 3 `replay`; None exactly where the
+/// name is another one (this project's own).
+pub fn reserved(name: &str) -> Option<EmitterId>
     ensures { result ≡ reserved name.now }
 {
     match name {

@@ -50,8 +50,8 @@ is_of_table rows e = is_known rows e.prop && list_all (is_known rows) e.hyps && 
 abbrev pub is_new : List Change → List ℕ → Bool
 is_new cs name = not (is_taken cs name) && nat_lt (emitters_of cs) 256
 
--- whether a change is refused for no other reason than the history's length. An entry wants a registered emitter
--- and properties of the table. No line of a script sets a parameter so far
+-- whether nothing but the history's length can refuse a change: a registration has a new name, and an entry a
+-- registered emitter and properties of the table. No line of a script sets a parameter so far
 abbrev pub is_fit : List Prop → List Change → Change → Bool
 is_fit rows cs (Register name set) = is_new cs name
 is_fit rows cs (Param n x) = false

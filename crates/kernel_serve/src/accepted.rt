@@ -11,7 +11,7 @@ ghost use Rattle.kernel_serve.specs.Script.{with_change, with_line};
 ghost use Rattle.kernel_serve.specs.Steps.{GivesChanges};
 
 use c_ir::PropTable;
-use event_script::{Script, ScriptFault, Wanted};
+use event_script::{Script, ScriptFault, Wanted, reserved};
 use fc_base::{EmitterId, Name, ParamSet, PropId};
 use sqlite_items::Items;
 use status_history::{Change, Changes, Entry};
@@ -162,7 +162,7 @@ impl Accepted {
         self.fits(props, change) && self.changes.len() < MOST_CHANGES
     }
 
-    /// Whether a change is refused for no other reason than the history's length.
+    /// Whether nothing but the history's length can refuse a change.
     fn fits(&self, props: &PropTable, change: &Change) -> bool
         ensures { result ≡ is_fit props.now.rows self.now change.now }
     {
@@ -186,7 +186,7 @@ impl Accepted {
     fn is_taken(&self, name: &str) -> bool
         ensures { result ≡ is_taken self.now name.now }
     {
-        is_reserved(name) || is_registered_in(self.changes.as_slice(), name)
+        reserved(name).is_some() || is_registered_in(self.changes.as_slice(), name)
     }
 
     /// Whether the emitter was registered.
@@ -195,13 +195,6 @@ impl Accepted {
     {
         RESERVED <= emitter.0 && emitter.0 < self.emitters
     }
-}
-
-/// Whether an emitter that is there from the start has the name.
-fn is_reserved(name: &str) -> bool
-    ensures { result ≡ is_some (reserved name.now) }
-{
-    matches!(name, "kernel" | "rte" | "eva" | "replay")
 }
 
 /// Whether one of the changes registers an emitter under the name.
