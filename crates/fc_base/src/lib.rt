@@ -1,5 +1,5 @@
-//! What all layers speak of: numbers of things, places in a text, statuses, verdicts, names and the
-//! values of parameters.
+//! What all layers speak of: numbers of things, places in a text, operators, statuses, verdicts, names
+//! and the values of parameters.
 #![tactic(auto)]
 
 mod ids;
@@ -7,6 +7,7 @@ mod name;
 mod params;
 mod relation;
 mod status;
+mod syntax;
 mod verdict;
 
 pub use ids::{EmitterId, FnId, Line, PointId, PropId, SiteId, Span};
@@ -14,4 +15,5 @@ pub use name::{Bounded, Name, PropName};
 pub use params::{ParamSet, ParamValues};
 pub use relation::Relation;
 pub use status::LocalStatus;
+pub use syntax::{BinaryOp, LiteralForm, NoteOp, Spot, UnaryOp};
 pub use verdict::{VERDICTS, Verdict};
