@@ -15,7 +15,7 @@ use Rattle.c_front.specs.declared.tree.Part.{Part}
 use Rattle.c_front.specs.declared.tree.Part.TheVariants as P
 use Rattle.c_front.specs.declared.tree.Unit.{Unit}
 use Rattle.c_front.specs.Rows.{Row, dead_row, alarm_row, alarm_rows, assert_row, sum_rows, part_rows, parts_rows, rows_of}
-use Rattle.status_rules.specs.Truth.{Visit, has_visit}
+use Rattle.status_history.specs.Claims.{Visit, has_visit}
 use Rattle.c_first_runs.specs.Evaluation.{Cells, Course, visit, checked, is_int, item_value, added, evaluated, exact, relates}
 use Rattle.c_first_runs.specs.Run.{number_in, is_of, alarms_at, entry_visits, no_cells, stored, behind, exit_visits, body_visits, unit_visits}
 use Rattle.c_first_runs.proofs.Follows.{AllAt, Each, AllFrom, Follows, Block, none_follows, joined}

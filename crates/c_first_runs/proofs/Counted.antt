@@ -9,7 +9,7 @@ use Rattle.c_front.specs.declared.tree.Part.{Part}
 use Rattle.c_front.specs.declared.tree.Part.TheVariants as P
 use Rattle.c_front.specs.declared.tree.Unit.{Unit}
 use Rattle.c_front.specs.Rows.{Row, dead_row, alarm_row, alarm_rows, assert_row, sum_rows, part_rows, parts_rows, rows_of}
-use Rattle.status_rules.specs.Truth.{Visit}
+use Rattle.status_history.specs.Claims.{Visit}
 use Rattle.c_first_runs.specs.Evaluation.{Cells, Course, visit, checked, is_int, item_value, added, evaluated, exact, relates}
 use Rattle.c_first_runs.specs.Run.{number_in, alarms_at, arriving, stored, storing, part_course, behind, then_go, exit_visits, body_visits, unit_visits, no_cells}
 use Rattle.c_first_runs.specs.Tracing.{Traced, numbers_from, part_count, parts_count, body_from}

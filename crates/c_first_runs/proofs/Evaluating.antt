@@ -7,7 +7,7 @@ use Rattle.c_front.specs.declared.tree.Item.{Item}
 use Rattle.c_first_runs.specs.Evaluation.{Cells, Course, visit, added, checked, exact_more, is_int, item_value, evaluated}
 use Rattle.c_first_runs.specs.Tracing.{Traced, Traces, plus, last_from, numbers_from}
 use Rattle.c_front.specs.declared.tree.Sum.{Sum}
-use Rattle.status_rules.specs.Truth.{Visit}
+use Rattle.status_history.specs.Claims.{Visit}
 use Rattle.c_first_runs.specs.Run.{behind, exit_visits, then_go}
 
 -- the bounds of an `int`

@@ -1,4 +1,4 @@
--- A run with fewer arrivals stands first in one with more.
+-- A run with fewer arrivals is a prefix of one with more.
 use Rattle.std.proofs.Common.{◌≡◌, ℕ, zero, suc, ◌+◌, ◌≤◌, ◌++◌, pos, Bool, false, List, [], ◌∷◌, append_assoc, Option, Some, None, refl, ap, ◌∙◌, le_of_suc-le-suc, not-suc-le-zero}
 use Rattle.std.specs.Prelude.{not}
 use Rattle.std.specs.Ordering.{int_eq}
@@ -7,7 +7,8 @@ use Rattle.c_front.specs.declared.tree.Part.{Part}
 use Rattle.c_front.specs.declared.tree.Unit.{Unit}
 use Rattle.c_ir.specs.declared.kind.Kind.TheVariants as K
 use Rattle.c_front.specs.Rows.{rows_of}
-use Rattle.status_rules.specs.Truth.{Visit}
+use Rattle.status_history.specs.Claims.{Visit}
+use Rattle.param_book.specs.Table.{signed_overflow}
 use Rattle.c_first_runs.specs.Evaluation.{Cells, Course, visit, evaluated}
 use Rattle.c_first_runs.specs.Run.{Numbers, number_in, alarms_at, entry_visits, no_cells, arriving, part_course, behind, then_go, exit_visits, last_visits, body_visits, runs_of}
 use Rattle.c_first_runs.specs.RunLaws.{FewerArePrefix}
@@ -53,4 +54,4 @@ begins_entry overflow prop u (suc m) (suc n) h =
 
 pub fewer_begin : FewerArePrefix
 unfolding runs_of
-fewer_begin u a b c input m n h = begins_entry (not (int_eq c (pos 0))) (number_in (rows_of u)) u m n h
+fewer_begin u run input m n h = begins_entry (not (int_eq (signed_overflow run) (pos 0))) (number_in (rows_of u)) u m n h

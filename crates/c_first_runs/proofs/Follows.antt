@@ -6,10 +6,9 @@ use Rattle.std.proofs.lemmas.Bool.{and_parts, or_cases, eqb-true, eq-eqb, falseâ
 use Rattle.std.proofs.lemmas.List.Folds.{list_any-append}
 use Rattle.std.proofs.lemmas.Option.{none-some, same_Some}
 use Rattle.fc_base.specs.declared.ids.Line.{Line}
-use Rattle.c_ir.specs.Kinds.{is_firm}
-use Rattle.c_ir.specs.Table.{is_dead}
+use Rattle.c_ir.specs.Kinds.{is_dead, is_firm}
 use Rattle.c_front.specs.Rows.{Row, dead_row}
-use Rattle.status_rules.specs.Truth.{Visit, has_visit, has_true}
+use Rattle.status_history.specs.Claims.{Visit, has_visit, has_true}
 use Rattle.c_first_runs.specs.Evaluation.{visit}
 
 -- rows at one point, none of kind Dead

@@ -6,15 +6,17 @@ use Rattle.std.specs.Ordering.{int_eq}
 use Rattle.std.proofs.lemmas.Bool.{or_cases, eqb-true, eq-eqb, false≢true}
 use Rattle.std.proofs.lemmas.Option.{same_Some}
 use Rattle.fc_base.specs.declared.ids.PropId.{PropId}
-use Rattle.c_ir.specs.Table.{dead_of, is_dead}
+use Rattle.c_ir.specs.Kinds.{is_dead}
+use Rattle.c_ir.specs.Table.{dead_of}
 use Rattle.c_front.specs.declared.tree.Item.{Item}
 use Rattle.c_front.specs.declared.tree.Sum.{Sum}
 use Rattle.c_front.specs.declared.tree.Part.{Part}
 use Rattle.c_front.specs.declared.tree.Part.TheVariants as P
 use Rattle.c_front.specs.declared.tree.Unit.{Unit}
 use Rattle.c_front.specs.Rows.{Row, props_of, rows_of}
-use Rattle.status_rules.specs.Holds.{is_live}
-use Rattle.status_rules.specs.Truth.{Visit, has_visit}
+use Rattle.c_ir.specs.Table.{is_live}
+use Rattle.status_history.specs.Claims.{Visit, has_visit}
+use Rattle.param_book.specs.Table.{signed_overflow}
 use Rattle.c_first_runs.specs.Evaluation.{Cells, Course, added, checked, is_int, item_value, evaluated}
 use Rattle.c_first_runs.specs.Run.{arriving, alarms_at, behind, exit_visits, no_cells, part_course, runs_of, then_go, unit_visits}
 use Rattle.c_first_runs.specs.RunLaws.{DeadComesFirst}
@@ -158,7 +160,7 @@ met_before q n m (x ∷ before) v rest is less h = elim (or_cases (x.prop == q) 
   | inr there ↦ or_right (x.prop == q) (has_visit q before) (met_before q (x.prop + 1) m before v rest is.1 less there)
 ]
 
--- the property of kind Dead at a point stands in front of the others there
+-- the property of kind Dead at a point comes before the others there
 dead_below : (u : Unit) (p : ℕ) (d : PropId) → is_live (props_of u) p ≡ true → dead_of (props_of u).rows p ≡ Some d → d.0 < p
 dead_below u p d live dead =
     let it = passing (λ prop. not (is_dead prop.kind)) (slice_get (props_of u).rows p) live in
@@ -175,10 +177,10 @@ dead_below u p d live dead =
 
 pub dead_first : DeadComesFirst
 unfolding runs_of
-dead_first u a b c input n before rest v d run live dead =
-    let overflow = not (int_eq c (pos 0)) in
+dead_first u values input n before rest v d run live dead =
+    let overflow = not (int_eq (signed_overflow values) (pos 0)) in
     let order = unit_between overflow u n in
-    let h = (keep_laws u).point_first a b c input n v.prop d live dead (subst (λ vs. has_visit v.prop vs ≡ true) (sym run) (visits_it before)) in
+    let h = (keep_laws u values input n).dead_visited v.prop d live dead (subst (λ vs. has_visit v.prop vs ≡ true) (sym run) (visits_it before)) in
     met_before d.0 0 order.0 before v rest (subst (λ vs. Between 0 order.0 vs) run order.1) (dead_below u v.prop d live dead) (subst (λ vs. has_visit d.0 vs ≡ true) run h)
   where
     visits_it : (xs : List Visit) → has_visit v.prop (xs ++ v ∷ rest) ≡ true

@@ -8,13 +8,14 @@ use Rattle.std.proofs.lemmas.Option.{none-some, same_Some, option_and_then_some,
 use Rattle.std.proofs.lemmas.List.Quantifiers.{position-Some}
 use Rattle.fc_base.specs.declared.ids.PropId.{PropId}
 use Rattle.c_ir.specs.declared.prop.Prop.{Prop}
-use Rattle.c_ir.specs.Kinds.{is_firm}
+use Rattle.c_ir.specs.Kinds.{is_dead, is_firm}
 use Rattle.c_ir.specs.Props.{Props}
-use Rattle.c_ir.specs.Table.{claims_dead, dead_at, dead_of, is_dead}
+use Rattle.c_ir.specs.Table.{claims_dead, dead_at, dead_of}
 use Rattle.c_front.specs.declared.tree.Unit.{Unit}
 use Rattle.c_front.specs.Rows.{Row, is_alarm, prop_of, numbered, rows_of, props_of}
-use Rattle.status_rules.specs.Holds.{some_row, row_passes, kind_admitted, row_admitted}
-use Rattle.status_rules.specs.Truth.{has_visit, has_true}
+use Rattle.c_ir.specs.Table.{some_row, row_passes, kind_admitted, row_admitted}
+use Rattle.status_history.specs.Claims.{has_visit, has_true}
+use Rattle.param_book.specs.Table.{entry_function, signed_overflow}
 use Rattle.c_first_runs.specs.Run.{unit_visits, runs_of}
 use Rattle.c_first_runs.specs.RunLaws.{RunsKeepLaws, VisitsAreRows}
 use Rattle.c_first_runs.proofs.Follows.{Each, each_at}
@@ -125,18 +126,21 @@ none_admitted u main p h =
     let plain = each_at Plain (rows_of u) (all_plain u) p mine.row mine.place t main it.0.function.0 in
     false≢true (sym plain ∙ ap (kind_admitted t main it.0.function.0) (sym mine.kind) ∙ it.2)
 
+abbrev checks_overflow : List ℤ → Bool
+checks_overflow run = not (int_eq (signed_overflow run) (pos 0))
+
 pub keep_laws : RunsKeepLaws
 unfolding runs_of
-keep_laws u = record {
-  point_first = λ a b c input n p d live h met. keeps_first (not (int_eq c (pos 0))) u n p d h met;
-  dead_false = λ a b c input n d h. keeps_dead (not (int_eq c (pos 0))) u n d h;
-  firm_visited = λ a b c input n p d firm h met. keeps_firm (not (int_eq c (pos 0))) u n p d firm h met;
-  admitted_true = λ a b c input n p h. absurd (none_admitted u a p h);
+keep_laws u run input n = record {
+  dead_visited = λ p d live h met. keeps_first (checks_overflow run) u n p d h met;
+  dead_false = λ d h. keeps_dead (checks_overflow run) u n d h;
+  firm_visited = λ p d firm h met. keeps_firm (checks_overflow run) u n p d firm h met;
+  admitted_true = λ p h. absurd (none_admitted u (entry_function run) p h);
 }
 
 pub are_rows : VisitsAreRows
 unfolding runs_of
-are_rows u a b c input n p met =
-    let w = (unit_follows (not (int_eq c (pos 0))) u n).inside p met in
+are_rows u run input n p met =
+    let w = (unit_follows (checks_overflow run) u n).inside p met in
     let long = length-numbered 0 0 (rows_of u) in
     lt-ltb p (length (props_of u).rows) (omega (arith, w.1, long))

@@ -11,8 +11,8 @@ use Rattle.c_ir.specs.declared.kind.Kind.{Kind}
 use Rattle.c_ir.specs.declared.kind.Kind.TheVariants as K
 use Rattle.c_ir.specs.declared.kind.AlarmKind.TheVariants as A
 use Rattle.c_ir.specs.declared.prop.Prop.{Prop}
-use Rattle.c_ir.specs.Kinds.{kind_text}
-use Rattle.c_ir.specs.Table.{claims_dead, dead_at, dead_of, is_dead}
+use Rattle.c_ir.specs.Kinds.{is_dead, kind_text}
+use Rattle.c_ir.specs.Table.{claims_dead, dead_at, dead_of}
 use Rattle.c_front.specs.declared.tree.Item.{Item}
 use Rattle.c_front.specs.declared.tree.Sum.{Sum}
 use Rattle.c_front.specs.declared.tree.Part.{Part}

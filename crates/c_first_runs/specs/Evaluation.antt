@@ -7,7 +7,7 @@ use Rattle.fc_base.specs.declared.relation.Relation.TheVariants as R
 use Rattle.c_front.specs.declared.tree.Item.{Item}
 use Rattle.c_front.specs.declared.tree.Item.TheVariants as I
 use Rattle.c_front.specs.declared.tree.Sum.{Sum}
-use Rattle.status_rules.specs.Truth.{Visit}
+use Rattle.status_history.specs.Claims.{Visit}
 
 -- what each variable holds, by its name
 abbrev pub Cells : Type 0

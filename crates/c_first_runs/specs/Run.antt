@@ -11,7 +11,8 @@ use Rattle.c_ir.specs.declared.kind.AlarmKind.TheVariants as A
 use Rattle.c_ir.specs.Kinds.{kind_text}
 use Rattle.c_front.specs.Rows.{Row, rows_of}
 use Rattle.c_first_runs.specs.Evaluation.{Cells, Course, visit, evaluated, exact, relates}
-use Rattle.status_rules.specs.Truth.{Visit, Runs}
+use Rattle.param_book.specs.Table.{signed_overflow}
+use Rattle.status_history.specs.Claims.{Visit, Visits}
 
 -- the properties of a program by point, kind and count: what number each has in the table
 abbrev pub Numbers : Type 0
@@ -95,7 +96,7 @@ entry_visits overflow prop u (suc left) = visit (prop 0 K.Dead 0) false ∷ body
 abbrev pub unit_visits : Bool → Unit → ℕ → List Visit
 unit_visits overflow u arrivals = entry_visits overflow (number_in (rows_of u)) u arrivals
 
--- the runs of a program: parameter 2 says whether overflow is checked. Its one function is the entry, it has
--- no variable outside it, and no part takes from the input
-unfoldable pub runs_of : Unit → Runs
-runs_of u entry lib_entry signed_overflow input arrivals = unit_visits (not (int_eq signed_overflow (pos 0))) u arrivals
+-- the runs of a program, by the values of the run parameters. Its one function is the entry, it has no variable
+-- outside it, and no part takes from the input
+unfoldable pub runs_of : Unit → List ℤ → Visits
+runs_of u run input arrivals = unit_visits (not (int_eq (signed_overflow run) (pos 0))) u arrivals

@@ -5,7 +5,7 @@ use Rattle.c_ir.specs.declared.kind.Kind.TheVariants as K
 use Rattle.c_front.specs.declared.tree.Sum.{Sum}
 use Rattle.c_front.specs.declared.tree.Part.{Part}
 use Rattle.c_front.specs.declared.tree.Part.TheVariants as P
-use Rattle.status_rules.specs.Truth as Truth
+use Rattle.status_history.specs.Claims as Truth
 use Rattle.c_first_runs.specs.declared.cells.Cells as declared
 use Rattle.c_first_runs.specs.declared.cells.Store.{Store}
 use Rattle.c_first_runs.specs.declared.flow.Flow.{Flow}

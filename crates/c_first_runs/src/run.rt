@@ -2,7 +2,7 @@
 
 ghost use Rattle.std.specs.Prelude.{◌≡◌, ◌≤◌, ◌<◌, ◌+◌, ◌++◌, List, ℤ, IfOk, OnOk, length, map};
 ghost use Rattle.c_front.specs.Rows.{rows_of};
-ghost use Rattle.status_rules.specs.Truth.{under};
+ghost use Rattle.param_book.specs.Table.{under};
 ghost use Rattle.c_first_runs.specs.Run.{no_cells, exit_visits, part_course, runs_of, storing, unit_visits};
 ghost use Rattle.c_first_runs.specs.Tracing.{Traces, behind_flow, body_from, held, last_from, numbers_from, part_count, parts_count, seen};
 
@@ -12,6 +12,7 @@ use crate::flow::Flow;
 use crate::trace::{Trace, Visit};
 use c_front::{Part, Sum, Unit};
 use fc_base::{Name, ParamValues};
+use param_book::SIGNED_OVERFLOW;
 use std::alloc::{AllocError, Global};
 
 /// The visits of the program's run under these values of the parameters with so many arrivals at points, from the
@@ -30,9 +31,6 @@ pub fn visits(
 {
     run_visits(alloc, unit, values.get(SIGNED_OVERFLOW) != 0, arrivals)
 }
-
-/// The number of the parameter that says whether signed overflow is checked.
-const SIGNED_OVERFLOW: u8 = 2;
 
 /// The same, where signed overflow is checked or not.
 fn run_visits(

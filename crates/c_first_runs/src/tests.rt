@@ -7,6 +7,7 @@ use crate::{
 use c_front::{UnitFault, table, unit};
 use c_ir::{Prop, PropTable};
 use fc_base::{EmitterId, LocalStatus, Name, ParamSet, ParamValues, PropId, Verdict};
+use param_book::opening;
 use sqlite_items::Items;
 use status_history::{Change, Entry, History};
 use status_rules::full;
@@ -194,7 +195,7 @@ const CASES: [Case; 14] = [
 
 /// The values of the parameters where overflow is checked or not.
 fn values(signed_overflow: bool) -> ParamValues {
-    let mut values = ParamValues::opening(0, false);
+    let mut values = opening(0, false);
     values.set(2, i64::from(signed_overflow));
     values
 }
@@ -308,7 +309,7 @@ fn opened(alloc: Global, signed_overflow: bool) -> Result<History, AllocError> {
         name: Name::new(alloc, "hand")?,
         correctness: ParamSet(7),
     })?;
-    let opening = ParamValues::opening(0, false);
+    let opening = opening(0, false);
     Ok(History { opening, changes })
 }
 

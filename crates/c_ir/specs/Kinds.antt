@@ -1,4 +1,4 @@
--- The words of kinds, and which kinds are firm.
+-- The words of kinds, which kinds are firm, and which claims that no run arrives.
 use Rattle.std.specs.Prelude.{List, ℕ, Bool, true, false, codes}
 use Rattle.c_ir.specs.declared.kind.Kind.{Kind}
 use Rattle.c_ir.specs.declared.kind.Kind.TheVariants as K
@@ -20,7 +20,7 @@ kind_text (K.Alarm A.IndexBound) = codes "index_bound"
 kind_text (K.Alarm A.Initialization) = codes "initialization"
 kind_text K.Dead = codes "dead"
 
--- a property of a firm kind is visited at each arrival at its point
+-- a property of a firm kind is visited at each arrival at its point at which no admitted predicate is false
 abbrev pub is_firm : Kind → Bool
 is_firm K.Requires = true
 is_firm K.CallRequires = false
@@ -31,3 +31,8 @@ is_firm K.Admit = false
 is_firm K.LoopInvariant = true
 is_firm (K.Alarm a) = false
 is_firm K.Dead = false
+
+-- the claim that no run arrives at the point
+abbrev pub is_dead : Kind → Bool
+is_dead K.Dead = true
+is_dead _ = false

@@ -1,4 +1,4 @@
-pub mod Index
 pub mod Kinds
 pub mod Props
 pub mod Table
+pub mod inner

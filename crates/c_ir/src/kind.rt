@@ -1,7 +1,7 @@
 //! Kinds of properties.
 
 ghost use Rattle.std.specs.Prelude.{◌≡◌};
-ghost use Rattle.c_ir.specs.Kinds.{kind_text, is_firm};
+ghost use Rattle.c_ir.specs.Kinds.{kind_text, is_firm, is_dead};
 
 /// What an operator's check asks (after Frama-C's RTE manual).
 #[derive(Clone, Copy, Debug, PartialEq, Eq)]
@@ -64,7 +64,8 @@ impl Kind {
         }
     }
 
-    /// Whether a property of the kind is visited each time a run arrives at its point.
+    /// Whether a property of the kind is visited each time that a run arrives at its point and no admitted
+    /// predicate of the point is false.
     pub fn is_firm(self) -> bool
         ensures { result ≡ is_firm self }
     {
@@ -72,5 +73,11 @@ impl Kind {
             Kind::Assert | Kind::Check | Kind::LoopInvariant | Kind::Requires => true,
             Kind::CallRequires | Kind::Ensures | Kind::Admit | Kind::Alarm(_) | Kind::Dead => false,
         }
+    }
+    /// Whether a property of the kind claims that no run arrives at its point.
+    pub fn is_dead(self) -> bool
+        ensures { result ≡ is_dead self }
+    {
+        matches!(self, Kind::Dead)
     }
 }

@@ -14,7 +14,7 @@ pub struct Prop {
     pub point: PointId,
     /// The line of its clause's keyword, or of its point.
     pub line: Line,
-    /// Whether each arrival at the point visits it.
+    /// Whether each arrival at the point visits it at which no admitted predicate is false.
     pub firm: bool,
     /// The operator that an Alarm is of.
     pub site: Option<SiteId>,

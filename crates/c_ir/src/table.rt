@@ -1,11 +1,12 @@
 //! The table of all properties.
 
 ghost use Rattle.std.specs.Prelude.{◌≡◌, ◌≤◌, ◌<◌, ◌==◌, IfOk, length};
-ghost use Rattle.c_ir.specs.Table.{first_named, dead_of};
+ghost use Rattle.c_ir.specs.Table.{first_named, dead_of, is_row, is_live, is_firm_row, is_defined, row_admitted};
 
 use crate::index::{index_deads, index_names};
+use crate::kind::Kind;
 use crate::prop::Prop;
-use fc_base::PropId;
+use fc_base::{FnId, PropId};
 use sqlite_items::Items;
 use std::alloc::{AllocError, Global};
 use std::collections::BTreeMap;
@@ -25,7 +26,7 @@ pub struct PropTable {
 
 impl Model for PropTable {
     ghost use Rattle.c_ir.specs.Props.{Props};
-    ghost use Rattle.c_ir.specs.Index.{IsIndexed};
+    ghost use Rattle.c_ir.specs.inner.Index.{IsIndexed};
 
     ghost Value = { Props };
 
@@ -69,6 +70,58 @@ impl PropTable {
     {
         let point = self.rows.as_slice()[prop.0 as usize].point;
         self.deads.get(&point.0).map(|number| PropId(*number))
+    }
+
+    /// Whether a number is a property's.
+    pub fn contains(&self, prop: PropId) -> bool
+        ensures { result ≡ is_row self.now prop.0 }
+    {
+        prop.0 < self.len()
+    }
+
+    /// Whether property `prop`, which is in the table, is of another kind than Dead.
+    pub fn is_live(&self, prop: PropId) -> bool
+        requires { prop.0 < length self.now.rows }
+        ensures { result ≡ is_live self.now prop.0 }
+    {
+        !self.rows.as_slice()[prop.0 as usize].kind.is_dead()
+    }
+
+    /// Whether property `prop`, which is in the table, is firm: each arrival at its point visits it at which no
+    /// admitted predicate is false.
+    pub fn is_firm(&self, prop: PropId) -> bool
+        requires { prop.0 < length self.now.rows }
+        ensures { result ≡ is_firm_row self.now prop.0 }
+    {
+        self.rows.as_slice()[prop.0 as usize].firm
+    }
+
+    /// Whether a property is taken as true, for the number of the entry function: it is of kind Admit, an
+    /// Ensures of a function that isn't defined, or a Requires of the entry function (this project's own).
+    pub fn admits(&self, row: &Prop, entry_function: i64) -> bool
+        ensures { result ≡ row_admitted self.now entry_function row.now }
+    {
+        match row.kind {
+            Kind::Admit => true,
+            Kind::Ensures => !self.is_defined(row.function),
+            Kind::Requires => i64::from(row.function.0) == entry_function,
+            Kind::CallRequires
+            | Kind::Assert
+            | Kind::Check
+            | Kind::LoopInvariant
+            | Kind::Alarm(_)
+            | Kind::Dead => false,
+        }
+    }
+
+    /// Whether a function is defined; false where the table doesn't list it.
+    pub fn is_defined(&self, function: FnId) -> bool
+        ensures { result ≡ is_defined self.now function.0 }
+    {
+        match self.defined().get(function.0 as usize) {
+            Some(defined) => *defined,
+            None => false,
+        }
     }
 
     /// How many properties there are.

@@ -48,6 +48,10 @@ fn finds_the_first(rt: HostRuntime) -> Result<(), AllocError> {
         assert_eq!(rt; table.find(name), place, "at {name}");
     }
     assert_eq!(rt; table.len(), 5);
+    assert!(rt; table.contains(PropId(4)) && !table.contains(PropId(5)));
+    assert!(rt;
+        table.is_defined(FnId(0)) && !table.is_defined(FnId(1)) && !table.is_defined(FnId(2))
+    );
     assert!(rt; !table.is_empty());
     assert!(rt; table.defined() == [true, false].as_slice());
     for (place, row) in table.rows().iter().enumerate() {
@@ -58,6 +62,17 @@ fn finds_the_first(rt: HostRuntime) -> Result<(), AllocError> {
         };
         if place < table.len() as usize {
             assert_eq!(rt; table.dead_of(PropId(place as u32)), dead, "at {place}");
+            assert_eq!(rt;
+                table.is_live(PropId(place as u32)),
+                place == 0 || place == 4,
+                "at {place}"
+            );
+            assert_eq!(rt;
+                table.is_firm(PropId(place as u32)),
+                place == 0 || place == 4,
+                "at {place}"
+            );
+            assert_eq!(rt; table.admits(row, 0), false, "at {place}");
         }
         assert_eq!(rt; row.id, PropId(place as u32));
     }
@@ -95,5 +110,6 @@ fn names_kinds(rt: HostRuntime) {
     ] {
         assert_eq!(rt; kind.text(), text);
         assert_eq!(rt; kind.is_firm(), firm, "at {text}");
+        assert_eq!(rt; kind.is_dead(), text == "dead");
     }
 }

@@ -1,4 +1,3 @@
-pub mod Alike
 pub mod Members
 pub mod Texts
 pub mod Told

@@ -1,4 +1,4 @@
--- The lines of a script, by the data of their JSON text (this project's own).
+-- The lines of a script, by the data of their JSON text: `request_of`, what a line asks for (this project's own).
 use Rattle.std.specs.Prelude.{List, [], ◌∷◌, ℕ, Bool, ◌&&◌, codes, Option, Some, None, option_map, option_and_then, if◌then◌else◌}
 use Rattle.fc_base.specs.declared.ids.EmitterId.{EmitterId}
 use Rattle.fc_base.specs.declared.ids.PropId.{PropId}
@@ -42,7 +42,7 @@ props_named rows no_items = Some []
 props_named rows (item d ds) = option_and_then (λ name. option_map (λ ps. prop_named rows name ∷ ps) (props_named rows ds)) (as_str d)
 
 -- the entry of an `emit` line, at a version
-unfoldable pub entry_of : (List ℕ → Option EmitterId) → List Prop → ℕ → Data → Option Entry
+unfoldable pub entry_of : List (List ℕ × EmitterId) → List Prop → ℕ → Data → Option Entry
 entry_of told rows version d = do
   said ← emission_of d
   hyps ← props_named rows said.hyps
@@ -54,11 +54,11 @@ registered_or (Some name) change = Some (Register name (record { 0 = 0 }))
 registered_or None change = change
 
 -- the change of a `register` or `emit` line
-abbrev pub change_of : (List ℕ → Option EmitterId) → List Prop → ℕ → Data → Option Change
+abbrev pub change_of : List (List ℕ × EmitterId) → List Prop → ℕ → Data → Option Change
 change_of told rows version d = registered_or (name_registered d) (option_map Emit (entry_of told rows version d))
 
--- what a line asks for, by the emitters told, the properties and the version of an `emit` line
-abbrev pub line_of : (List ℕ → Option EmitterId) → List Prop → ℕ → List ℕ → Option Wanted
-line_of told rows version bytes =
+-- what a line asks for, by the emitters that were told of, the properties and the version of an `emit` line
+unfoldable pub request_of : List (List ℕ × EmitterId) → List Prop → ℕ → List ℕ → Option Wanted
+request_of told rows version bytes =
     if is_blank_line bytes then Some Blank
     else option_map Do (option_and_then (change_of told rows version) (value_of bytes))

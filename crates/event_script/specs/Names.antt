@@ -1,5 +1,5 @@
 -- Names in a script (this project's own).
-use Rattle.std.specs.Prelude.{List, ℕ, Bool, not, ◌==◌, ◌||◌, ◌&&◌, nat_le, length, codes, bytes_eq, Option, Some, None, unwrap_or, if◌then◌else◌}
+use Rattle.std.specs.Prelude.{List, [], ◌∷◌, ℕ, Bool, not, ◌==◌, ◌||◌, ◌&&◌, nat_le, length, bytes_eq, Option, Some, None, unwrap_or, if◌then◌else◌}
 use Rattle.std.specs.List.{list_all}
 use Rattle.std.specs.Map.{lookup}
 use Rattle.std.specs.Char.{is_ascii_alphanumeric}
@@ -8,6 +8,7 @@ use Rattle.fc_base.specs.declared.ids.PropId.{PropId}
 use Rattle.fc_base.specs.declared.status.LocalStatus.{LocalStatus}
 use Rattle.fc_base.specs.declared.status.LocalStatus.TheVariants as Status
 use Rattle.fc_base.specs.Texts.{status_text}
+use Rattle.param_book.specs.Emitters.{own_named}
 use Rattle.c_ir.specs.declared.prop.Prop.{Prop}
 use Rattle.c_ir.specs.Table.{first_named}
 
@@ -27,21 +28,18 @@ is_name_byte b = is_ascii_alphanumeric b || (b == 95) || (b == 45)
 abbrev pub is_name : List ℕ → Bool
 is_name name = not (length name == 0) && nat_le (length name) 64 && list_all is_name_byte name
 
--- the emitter that has a name from the start
-abbrev pub reserved : List ℕ → Option EmitterId
-reserved name =
-    if bytes_eq name (codes "kernel") then Some (record { 0 = 0 })
-    else (if bytes_eq name (codes "rte") then Some (record { 0 = 1 })
-    else (if bytes_eq name (codes "eva") then Some (record { 0 = 2 })
-    else (if bytes_eq name (codes "replay") then Some (record { 0 = 3 }) else None)))
+-- emitters by name, in the order in which they were told of: one more, or another number of one that is there
+abbrev pub with_told : List ℕ → EmitterId → List (List ℕ × EmitterId) → List (List ℕ × EmitterId)
+with_told name id [] = (name, id) ∷ []
+with_told name id (e ∷ es) = if bytes_eq name e.0 then (e.0, id) ∷ es else e ∷ with_told name id es
 
--- the number that was told last for a name, by the names and numbers that were told
+-- the number that a name has among these
 abbrev pub number_told : List (List ℕ × EmitterId) → List ℕ → Option EmitterId
 number_told told name = lookup (bytes_eq name) told
 
--- the emitter that a name stands for: the one that was told, the reserved one, or no emitter
-abbrev pub emitter_named : (List ℕ → Option EmitterId) → List ℕ → EmitterId
-emitter_named told name = unwrap_or (told name) (unwrap_or (reserved name) (record { 0 = 4294967295 }))
+-- the emitter that a name stands for: the one that was told of, the program's own, or no emitter
+abbrev pub emitter_named : List (List ℕ × EmitterId) → List ℕ → EmitterId
+emitter_named told name = unwrap_or (number_told told name) (unwrap_or (own_named name) (record { 0 = 4294967295 }))
 
 -- the status whose word this is
 abbrev pub status_named : List ℕ → Option LocalStatus

@@ -10,5 +10,4 @@ mod tests;
 mod value;
 
 pub use fault::ScriptFault;
-pub use names::reserved;
 pub use script::{Analyser, Script, Wanted};

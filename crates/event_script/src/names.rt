@@ -3,7 +3,7 @@
 ghost use Rattle.std.specs.Prelude.{◌≡◌, ◌≤◌, [], ◌==◌, length};
 ghost use Rattle.std.specs.Bool.{OnTrue};
 ghost use Rattle.std.specs.List.{list_all};
-ghost use Rattle.event_script.specs.Names.{is_blank, is_blank_line, is_name_byte, is_name, reserved, status_named, prop_named};
+ghost use Rattle.event_script.specs.Names.{is_blank, is_blank_line, is_name_byte, is_name, status_named, prop_named};
 
 use c_ir::PropTable;
 use fc_base::{EmitterId, LocalStatus, PropId};
@@ -61,20 +61,6 @@ fn is_name_byte(byte: u8) -> bool
     ensures { result ≡ is_name_byte byte }
 {
     byte.is_ascii_alphanumeric() || byte == b'_' || byte == b'-'
-}
-
-/// The emitter that has a name from the start: 0 `kernel`, 1 `rte`, 2 `eva`, 3 `replay`; None exactly where the
-/// name is another one (this project's own).
-pub fn reserved(name: &str) -> Option<EmitterId>
-    ensures { result ≡ reserved name.now }
-{
-    match name {
-        "kernel" => Some(EmitterId(0)),
-        "rte" => Some(EmitterId(1)),
-        "eva" => Some(EmitterId(2)),
-        "replay" => Some(EmitterId(3)),
-        _ => None,
-    }
 }
 
 /// The status that a word stands for.

@@ -1,18 +1,19 @@
 //! A script's lines in turn.
 
-ghost use Rattle.std.specs.Prelude.{◌≡◌, ℕ, List, [], Some, None, OnOk, OnErr, bytes_eq, if◌then◌else◌};
+ghost use Rattle.std.specs.Prelude.{◌≡◌, ◌==◌, [], OnOk, OnErr, length};
 ghost use Rattle.serde_json.specs.View.{view, items_view};
 ghost use Rattle.event_script.specs.Reading.{Gives};
-ghost use Rattle.event_script.specs.Names.{emitter_named, number_told};
-ghost use Rattle.event_script.specs.Lines.{line_of, change_of, entry_of, props_named};
+ghost use Rattle.event_script.specs.Names.{emitter_named, number_told, with_told};
+ghost use Rattle.event_script.specs.Lines.{request_of, change_of, entry_of, props_named};
 
 use crate::emission::{emission_of, name_registered};
 use crate::fault::ScriptFault;
-use crate::names::{NO_EMITTER, is_blank_line, prop_named, reserved};
+use crate::names::{NO_EMITTER, is_blank_line, prop_named};
 use crate::value::value_of;
 use c_ir::PropTable;
 use fc_base::{EmitterId, Name, ParamSet};
 use indexmap::IndexMap;
+use param_book::own_named;
 use serde_json::Value;
 use sqlite_items::Items;
 use status_history::{Change, Entry, Hyps};
@@ -68,11 +69,33 @@ impl Script {
 
     /// Notes that a name is this emitter's.
     pub fn told(&mut self, name: &str, id: EmitterId) -> Result<(), AllocError>
-        ensures ok { OnOk result ((asked : List ℕ) → number_told self.new asked ≡ (if bytes_eq name.now asked then Some id else number_told self.old asked)) }
+        ensures ok { OnOk result (self.new ≡ with_told name.now id self.old) }
         ensures err { OnErr result (self.new ≡ self.old) }
     {
         self.told.insert(String::from_str(self.alloc, name)?, id)?;
         Ok(())
+    }
+
+    /// How many emitters it was told of.
+    pub fn len(&self) -> usize
+        ensures { result ≡ length self.now }
+    {
+        self.told.len()
+    }
+
+    /// Whether it was told of none.
+    pub fn is_empty(&self) -> bool
+        ensures { result ≡ (length self.now == 0) }
+    {
+        self.told.is_empty()
+    }
+
+    /// The number that it was told for a name; None exactly where it was told of none.
+    #[tactic(auto, using(crate::proofs::Told::number_of_texts))]
+    pub fn number_told(&self, name: &str) -> Option<EmitterId>
+        ensures { result ≡ number_told self.now name.now }
+    {
+        self.told.get(name).copied()
     }
 
     /// What a line asks for, where `last` is the version of an `emit` line. A line is blank, or it is one
@@ -82,11 +105,12 @@ impl Script {
     ///   `_` or `-`;
     /// - `{"emit":EMITTER,"prop":NAME,"status":STATUS,"hyps":[NAME, ..]}`.
     ///
-    /// An emitter that wasn't told of and has no reserved name stands as 4294967295, and so does a property
+    /// An emitter that it wasn't told of and that isn't the program's own stands as 4294967295, and so does a property
     /// that isn't in the table. Of a repeated key the last value counts. The answer is `Form` exactly where
     /// the line is none of these, also where it isn't UTF-8. It leaves the reader as it was.
+    #[tactic(auto, unfolding(crate::specs::Lines::request_of))]
     pub fn line(&mut self, text: &[u8], props: &PropTable, last: u32) -> Result<Wanted, ScriptFault>
-        ensures value { Gives (λ w. w) result (line_of (number_told self.old) props.now.rows last text.now) }
+        ensures value { Gives (λ w. w) result (request_of self.old props.now.rows last text.now) }
         ensures same { self.new ≡ self.old }
     {
         if is_blank_line(text) {
@@ -99,7 +123,7 @@ impl Script {
 
     /// The change that a line's value is.
     fn change_of(&self, value: &Value, props: &PropTable, last: u32) -> Result<Change, ScriptFault>
-        ensures { Gives (λ c. c) result (change_of (number_told self.now) props.now.rows last (view value.now)) }
+        ensures { Gives (λ c. c) result (change_of self.now props.now.rows last (view value.now)) }
     {
         if let Some(name) = name_registered(value) {
             let name = Name::new(self.alloc, name)?;
@@ -113,7 +137,7 @@ impl Script {
     /// The entry that an `emit` line's value is.
     #[tactic(auto, unfolding(crate::specs::Lines::entry_of))]
     fn entry_of(&self, value: &Value, props: &PropTable, version: u32) -> Result<Entry, ScriptFault>
-        ensures { Gives (λ e. e) result (entry_of (number_told self.now) props.now.rows version (view value.now)) }
+        ensures { Gives (λ e. e) result (entry_of self.now props.now.rows version (view value.now)) }
     {
         let Some(said) = emission_of(value) else {
             return Err(ScriptFault::Form);
@@ -130,20 +154,12 @@ impl Script {
 
     /// The emitter that a name stands for.
     fn emitter_named(&self, name: &str) -> EmitterId
-        ensures { result ≡ emitter_named (number_told self.now) name.now }
+        ensures { result ≡ emitter_named self.now name.now }
     {
         match self.number_told(name) {
             Some(id) => id,
-            None => reserved(name).unwrap_or(NO_EMITTER),
+            None => own_named(name).unwrap_or(NO_EMITTER),
         }
-    }
-
-    /// The number that was told last for a name.
-    #[tactic(auto, using(crate::proofs::Told::number_of_texts))]
-    fn number_told(&self, name: &str) -> Option<EmitterId>
-        ensures { result ≡ number_told self.now name.now }
-    {
-        self.told.get(name).copied()
     }
 }
 

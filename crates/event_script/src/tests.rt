@@ -1,6 +1,6 @@
 //! Lines on small examples.
 
-use crate::{Analyser, Script, ScriptFault, Wanted, reserved};
+use crate::{Analyser, Script, ScriptFault, Wanted};
 use c_ir::{Kind, Prop, PropTable};
 use fc_base::{Bounded, EmitterId, FnId, Line, LocalStatus, PointId, PropId};
 use sqlite_items::Items;
@@ -208,13 +208,4 @@ fn counts_the_bytes_of_names(rt: HostRuntime) -> Result<(), AllocError> {
         assert!(rt; found.is_ok() == is_read);
     }
     Ok(())
-}
-
-#[test]
-fn knows_reserved_names(rt: HostRuntime) {
-    for (number, name) in ["kernel", "rte", "eva", "replay"].iter().enumerate() {
-        let found = reserved(name).is_some_and(|id| id.0 as usize == number);
-        assert!(rt; found, "{name}");
-    }
-    assert!(rt; reserved("Kernel").is_none());
 }

@@ -1,5 +1,5 @@
--- The words that stand for statuses and verdicts, as bytes.
-use Rattle.std.specs.Prelude.{List, ℕ, codes}
+-- The words that stand for statuses and verdicts, as bytes; the order of the verdicts.
+use Rattle.std.specs.Prelude.{List, [], ◌∷◌, ℕ, codes}
 use Rattle.fc_base.specs.declared.status.LocalStatus.{LocalStatus}
 use Rattle.fc_base.specs.declared.status.LocalStatus.TheVariants.{DontKnow, FalseIfReachable, FalseAndReachable}
 use Rattle.fc_base.specs.declared.status.LocalStatus.TheVariants as Status
@@ -26,3 +26,9 @@ verdict_text InvalidButDead = codes "Invalid_but_dead"
 verdict_text ValidButDead = codes "Valid_but_dead"
 verdict_text UnknownButDead = codes "Unknown_but_dead"
 verdict_text Inconsistent = codes "Inconsistent"
+
+-- all verdicts, in the order of a report's summary
+abbrev pub all_verdicts : List Verdict
+all_verdicts =
+    NeverTried ∷ ConsideredValid ∷ Valid ∷ ValidUnderHyp ∷ Unknown ∷ Invalid ∷ InvalidUnderHyp
+    ∷ InvalidButDead ∷ ValidButDead ∷ UnknownButDead ∷ Inconsistent ∷ []

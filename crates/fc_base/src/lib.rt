@@ -16,4 +16,4 @@ pub use params::{ParamSet, ParamValues};
 pub use relation::Relation;
 pub use status::LocalStatus;
 pub use syntax::{BinaryOp, LiteralForm, NoteOp, Spot, UnaryOp};
-pub use verdict::{VERDICTS, Verdict};
+pub use verdict::Verdict;

@@ -57,7 +57,7 @@ impl<const MOST: usize> Bounded<MOST> {
 #[cfg(test)]
 mod tests {
     use super::*;
-    use crate::{LocalStatus, ParamValues, VERDICTS};
+    use crate::{LocalStatus, ParamValues, Verdict};
     use std::test::Fail;
 
     #[test]
@@ -72,18 +72,15 @@ mod tests {
     #[test]
     fn words_of_statuses_and_verdicts(rt: HostRuntime) {
         assert!(rt; LocalStatus::DontKnow.text() == "Dont_know");
-        assert!(rt; VERDICTS[3].text() == "Valid_under_hyp");
-        assert!(rt; VERDICTS[10].text() == "Inconsistent");
+        assert!(rt; Verdict::all()[3].text() == "Valid_under_hyp");
+        assert!(rt; Verdict::all()[10].text() == "Inconsistent");
     }
 
     #[test]
     fn parameters_are_read_and_set(rt: HostRuntime) {
-        let mut values = ParamValues::opening(3, true);
-        assert!(rt; values.get(0) == 3);
-        assert!(rt; values.get(1) == 1);
-        assert!(rt; values.get(2) == 1);
-        assert!(rt; values.get(4) == 0);
+        let mut values = ParamValues { values: [4; 16] };
+        values.set(0, 3);
         values.set(15, 1_000_000_000);
-        assert!(rt; values.get(15) == 1_000_000_000);
+        assert!(rt; values.get(0) == 3 && values.get(1) == 4 && values.get(15) == 1_000_000_000);
     }
 }

@@ -1,7 +1,7 @@
 //! What all statements on a property come to.
 
 ghost use Rattle.std.specs.Prelude.{◌≡◌};
-ghost use Rattle.fc_base.specs.Texts.{verdict_text};
+ghost use Rattle.fc_base.specs.Texts.{verdict_text, all_verdicts};
 
 /// What the counted entries of all emitters come to for one property. The rule is in the crate
 /// `status_rules`; the names are after Frama-C's, the rule is this project's own.
@@ -19,7 +19,7 @@ pub enum Verdict {
     Unknown,
     /// Some run breaks it.
     Invalid,
-    /// Claimed false, without it being sure that it is reached.
+    /// Claimed false, where it doesn't follow that some run breaks it.
     InvalidUnderHyp,
     /// Each visit would break it, and no run visits it.
     InvalidButDead,
@@ -31,22 +31,26 @@ pub enum Verdict {
     Inconsistent,
 }
 
-/// All verdicts, in the order of a report's summary.
-pub const VERDICTS: [Verdict; 11] = [
-    Verdict::NeverTried,
-    Verdict::ConsideredValid,
-    Verdict::Valid,
-    Verdict::ValidUnderHyp,
-    Verdict::Unknown,
-    Verdict::Invalid,
-    Verdict::InvalidUnderHyp,
-    Verdict::InvalidButDead,
-    Verdict::ValidButDead,
-    Verdict::UnknownButDead,
-    Verdict::Inconsistent,
-];
-
 impl Verdict {
+    /// All verdicts, in the order of a report's summary.
+    pub fn all() -> [Verdict; 11]
+        ensures { result ≡ all_verdicts }
+    {
+        [
+            Verdict::NeverTried,
+            Verdict::ConsideredValid,
+            Verdict::Valid,
+            Verdict::ValidUnderHyp,
+            Verdict::Unknown,
+            Verdict::Invalid,
+            Verdict::InvalidUnderHyp,
+            Verdict::InvalidButDead,
+            Verdict::ValidButDead,
+            Verdict::UnknownButDead,
+            Verdict::Inconsistent,
+        ]
+    }
+
     /// The word that stands for the verdict in reports and messages.
     pub fn text(self) -> &'static str
         ensures { result.now ≡ verdict_text self }

@@ -7,7 +7,7 @@ use Rattle.std.proofs.lemmas.Bool.{false≢true}
 abbrev pub is_listed : List ℕ → ℕ → Bool
 is_listed fails call = list_any (λ n. nat_eq n call) fails
 
--- behind so many calls the next fails; no call past number 2 ^ 64 - 1 does
+-- after so many calls the next fails; no call past number 2 ^ 64 - 1 does
 abbrev pub fails_next : List ℕ → ℕ → Bool
 fails_next fails made = is_listed fails (made + 1) && nat_lt made (2 ^ 64 - 1)
 

@@ -1,5 +1,5 @@
 -- What files, a file that is being read and a sink hold, where an object tells it (this project's own).
-use Rattle.std.specs.Prelude.{◌≡◌, ◌+◌, ◌<◌, ◌≤◌, ℕ, Bool, true, false, List, [], ◌∷◌, Option, take, bytes_eq, if◌then◌else◌}
+use Rattle.std.specs.Prelude.{◌≡◌, ◌+◌, ◌<◌, ◌≤◌, ℕ, Bool, true, List, [], ◌∷◌, Option, take, bytes_eq, if◌then◌else◌}
 use Rattle.std.specs.Option.{option_map}
 use Rattle.std.specs.Io.KnownBytes.{prepend_known, append_known, IsAtEnd}
 use Rattle.fc_outside.specs.declared.outside.Begun.{Begun}
@@ -18,15 +18,15 @@ contents_of name (file ∷ files) = if bytes_eq file.0 name then file.1 else con
 abbrev pub told_contents : List ℕ → Option (List (List ℕ × List ℕ)) → Option (List ℕ)
 told_contents name files = option_map (contents_of name) files
 
--- whether a file has been begun
-abbrev pub is_ready : Begun → Bool
-is_ready begun.Ready = true
-is_ready begun.Failed = false
+-- whether a file is begun, after such an answer, if it was or wasn't before
+abbrev pub begun_after : Bool → Begun → Bool
+begun_after before begun.Ready = true
+begun_after before begun.Failed = before
 
--- at Ready all bytes of the named file are left
-abbrev pub Begins : Option (List ℕ) → Option (List ℕ) → Begun → Type 0
-Begins contents left begun.Ready = left ≡ contents
-Begins contents left begun.Failed = Unit {0}
+-- at Ready all bytes of the named file are left; else what was left before
+abbrev pub Begins : Option (List ℕ) → Option (List ℕ) → Option (List ℕ) → Begun → Type 0
+Begins contents old new begun.Ready = new ≡ contents
+Begins contents old new begun.Failed = new ≡ old
 
 -- a count of bytes is at least 1 and at most this number
 abbrev pub GotAtMost : ℕ → Got → Type 0
@@ -45,7 +45,7 @@ abbrev pub PutAtMost : ℕ → Put → Type 0
 PutAtMost most (put.Wrote n) = (1 ≤ n) × (n ≤ most)
 PutAtMost most put.Failed = Unit {0}
 
--- what a write did to the bytes that are held: the first n of the piece came behind them; as before
+-- what a write did to the bytes that are held: the first n of the piece were appended; as before
 abbrev pub Writes : Option (List ℕ) → Option (List ℕ) → List ℕ → Put → Type 0
 Writes old new piece (put.Wrote n) = new ≡ append_known old (take n piece)
 Writes old new piece put.Failed = new ≡ old

@@ -2,5 +2,6 @@ pub mod Calls
 pub mod Causes
 pub mod Contents
 pub mod Memory
-pub mod Place
+pub mod inner
+pub mod Requests
 pub mod Whole

@@ -1,5 +1,5 @@
 -- Files and a sink in memory, as contracts see them, and what their calls answer and leave.
-use Rattle.std.specs.Prelude.{◌+◌, ◌-◌, ℕ, zero, suc, Bool, true, false, List, [], ◌++◌, Option, None, Some, length, take, drop, min, unwrap_or, nat_eq, not, ◌&&◌, if◌then◌else◌}
+use Rattle.std.specs.Prelude.{◌+◌, ◌-◌, ℕ, zero, suc, Bool, true, false, List, [], ◌++◌, Option, Some, length, take, drop, min, unwrap_or, nat_eq, not, ◌&&◌, if◌then◌else◌}
 use Rattle.fc_outside.specs.declared.outside.Begun.{Begun}
 use Rattle.fc_outside.specs.declared.outside.Begun.TheVariants as begun
 use Rattle.fc_outside.specs.declared.outside.Got.{Got}
@@ -8,24 +8,28 @@ use Rattle.fc_outside.specs.declared.outside.Put.{Put}
 use Rattle.fc_outside.specs.declared.outside.Put.TheVariants as put
 use Rattle.fc_outside.specs.Calls.{fails_next, counted, failed_calls, is_nothing}
 use Rattle.fc_outside.specs.Contents.{contents_of}
+use Rattle.fc_outside.specs.Requests.{Requests}
 
 -- files in memory: the names with their bytes; what the begun file still gives, or none if there is none; the
--- greatest number of bytes of one read; the numbers of the calls that fail; how many calls were made
+-- greatest number of bytes of one read; the numbers of the calls that fail; how many calls were made; what was
+-- asked for, which is no longer told once there was no memory to keep a name
 pub record Shelved : Type 0 where
   pub files : List (List ℕ × List ℕ)
   pub left : Option (List ℕ)
   pub most : ℕ
   pub fails : List ℕ
   pub calls : ℕ
+  pub asked : Option Requests
 
 -- what a beginning answers and leaves
 abbrev pub begin_answer : Shelved → Begun
 begin_answer s = if fails_next s.fails s.calls then begun.Failed else begun.Ready
 
-abbrev pub after_begin : Shelved → List ℕ → Shelved
-after_begin s name = record s {
-  left = if fails_next s.fails s.calls then None else Some (contents_of name s.files);
+abbrev pub after_begin : Shelved → List ℕ → Option Requests → Shelved
+after_begin s name asked = record s {
+  left = if fails_next s.fails s.calls then s.left else Some (contents_of name s.files);
   calls = counted s.calls;
+  asked = asked;
 }
 
 -- the bytes that the begun file still gives; none where there is no such file
@@ -46,10 +50,11 @@ got_of false (suc n) = got.Bytes (suc n)
 abbrev pub read_answer : Shelved → ℕ → Got
 read_answer s room = got_of (fails_next s.fails s.calls) (read_count s room)
 
-abbrev pub after_read : Shelved → ℕ → Shelved
-after_read s room = record s {
+abbrev pub after_read : Shelved → ℕ → Option Requests → Shelved
+after_read s room asked = record s {
   left = if fails_next s.fails s.calls then s.left else Some (drop (read_count s room) (bytes_left s));
   calls = counted s.calls;
+  asked = asked;
 }
 
 -- a sink in memory: the bytes it holds; how many it can hold; the greatest number of bytes of one write; the

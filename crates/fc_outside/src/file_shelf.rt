@@ -2,16 +2,18 @@
 
 ghost use Rattle.std.specs.Prelude.{◌≡◌, false};
 
+use crate::again::read_again;
 use crate::outside::{Begun, Got, Shelf};
 use std::fs;
-use std::io::Read;
 use std::rt::Files;
 
 /// The files that a runtime reaches, by their paths. It counts each fault, a missing file among them, and
-/// tells nothing of what the files hold.
+/// tells nothing of what the files hold. A file is closed once its end was found, or another is begun.
 #[derive(Drop)]
 pub struct FileShelf<'r, R: Files> {
     rt: &'r R,
+    is_begun: bool,
+    /// The begun file, until its end was found.
     file: Option<R::File>,
     faults: u64,
 }
@@ -24,6 +26,7 @@ impl<'r, R: Files> FileShelf<'r, R> {
     {
         FileShelf {
             rt,
+            is_begun: false,
             file: None,
             faults: 0,
         }
@@ -31,14 +34,16 @@ impl<'r, R: Files> FileShelf<'r, R> {
 }
 
 impl<'r, R: Files> Shelf for FileShelf<'r, R> {
-    ghost use Rattle.std.specs.Prelude.{None, false, is_some};
+    ghost use Rattle.std.specs.Prelude.{None, false};
     ghost use Rattle.std.proofs.Common.{rules};
 
     ghost files = { λ s. None };
 
     ghost left = { λ s. None };
 
-    ghost is_begun = { λ s. is_some s.file };
+    ghost is_begun = { λ s. s.is_begun };
+
+    ghost asked = { λ s. None };
 
     ghost faults = { λ s. s.faults };
 
@@ -48,10 +53,10 @@ impl<'r, R: Files> Shelf for FileShelf<'r, R> {
         match fs::open(self.rt, name) {
             Ok(file) => {
                 self.file = Some(file);
+                self.is_begun = true;
                 Begun::Ready
             }
             Err(_) => {
-                self.file = None;
                 self.faults = self.faults.saturating_add(1);
                 Begun::Failed
             }
@@ -60,12 +65,15 @@ impl<'r, R: Files> Shelf for FileShelf<'r, R> {
 
     fn read(&mut self, buf: &mut [u8]) -> Got {
         let Some(file) = &mut self.file else {
-            unreachable!()
+            return Got::End;
         };
-        match file.read(buf) {
-            Ok(0) => Got::End,
-            Ok(count) => Got::Bytes(count),
-            Err(_) => {
+        match read_again(file, buf) {
+            Some(0) => {
+                self.file = None;
+                Got::End
+            }
+            Some(count) => Got::Bytes(count),
+            None => {
                 self.faults = self.faults.saturating_add(1);
                 Got::Failed
             }

@@ -2,8 +2,10 @@
 //! meaning, each over memory and over the standard library.
 #![tactic(auto)]
 
+mod again;
 mod calls;
 mod file_shelf;
+mod log;
 mod mem_shelf;
 mod mem_sink;
 mod out_sink;

@@ -1,14 +1,16 @@
 //! Files in memory.
 
-ghost use Rattle.std.specs.Prelude.{◌≡◌, ◌+◌, ◌^◌, ◌≤◌, ◌<◌, None, Some, true, IfOk, is_some, length, take, drop, min};
+ghost use Rattle.std.specs.Prelude.{◌≡◌, ◌+◌, ◌^◌, ◌≤◌, ◌<◌, None, Some, [], true, IfOk, is_some, length, take, drop, min};
 ghost use Rattle.std.specs.Option.{option_copied};
 ghost use Rattle.fc_outside.specs.Calls.{failed_calls, is_nothing};
 ghost use Rattle.fc_outside.specs.Causes.{HasCause};
-ghost use Rattle.fc_outside.specs.Contents.{contents_of, told_contents, is_ready, Begins, GotAtMost, Reads};
+ghost use Rattle.fc_outside.specs.Contents.{contents_of, told_contents, begun_after, Begins, GotAtMost, Reads};
+ghost use Rattle.fc_outside.specs.Requests.{AskedOnce, TookMore, bytes_got};
 ghost use Rattle.fc_outside.specs.Memory.{Shelved, begin_answer, after_begin, read_answer, after_read};
-ghost use Rattle.fc_outside.specs.Place.{bytes_at};
+ghost use Rattle.fc_outside.specs.inner.Place.{bytes_at};
 
 use crate::calls::{CallNums, Calls};
+use crate::log::Log;
 use crate::outside::{Begun, Got, Shelf};
 use sqlite_items::Items;
 use std::alloc::{AllocError, Global};
@@ -72,6 +74,7 @@ pub struct MemShelf {
     most: usize,
     calls: Calls,
     place: Option<Place>,
+    asked: Log,
 }
 
 impl Model for MemShelf {
@@ -80,30 +83,32 @@ impl Model for MemShelf {
 
     ghost Value = { Shelved };
 
-    ghost use Rattle.fc_outside.specs.Place.{left_at, IsWithin};
+    ghost use Rattle.fc_outside.specs.inner.Place.{left_at, IsWithin};
 
-    ghost view = { λ s. record { files = s.files; left = left_at s.files s.place; most = s.most; fails = s.calls.fails; calls = s.calls.made } };
+    ghost view = { λ s. record { files = s.files; left = left_at s.files s.place; most = s.most; fails = s.calls.fails; calls = s.calls.made; asked = s.asked } };
 
     ghost invariant = { λ s. (1 ≤ s.most) × IsWithin s.files s.place };
 }
 
 impl MemShelf {
     /// These files, none of them begun. A read gives at most `most` bytes; the calls that `fails` lists answer
-    /// Failed, where the beginnings and reads are counted together from 1.
+    /// Failed, where the beginnings and reads are counted together from 1. It tells what it is asked for as long
+    /// as there is memory to keep the names.
     pub fn new(
-        _alloc: Global,
+        alloc: Global,
         files: Files,
         most: usize,
         fails: CallNums,
     ) -> Result<MemShelf, AllocError>
         requires { 1 ≤ most }
-        ensures { IfOk result (λ s. s ≡ record { files = files; left = None; most = most; fails = fails; calls = 0 }) }
+        ensures { IfOk result (λ s. s ≡ record { files = files; left = None; most = most; fails = fails; calls = 0; asked = Some [] }) }
     {
         Ok(MemShelf {
             files,
             most,
             calls: Calls { fails, made: 0 },
             place: None,
+            asked: Log::new(alloc),
         })
     }
 }
@@ -120,8 +125,8 @@ fn number_of(files: &[MemFile], name: &str) -> usize
     files.len()
 }
 
-/// The bytes behind a place.
-fn bytes_behind(files: &[MemFile], place: Place) -> &[u8]
+/// The bytes from a place on.
+fn bytes_from(files: &[MemFile], place: Place) -> &[u8]
     requires { place.given ≤ length (bytes_at files.now place.file) }
     ensures value { result.now ≡ drop place.given (bytes_at files.now place.file) }
     ensures length { place.given + length result.now ≡ length (bytes_at files.now place.file) }
@@ -156,21 +161,24 @@ impl Shelf for MemShelf {
 
     ghost is_begun = { λ s. is_some s.left };
 
+    ghost asked = { λ s. s.asked };
+
     ghost faults = { λ s. failed_calls s.fails s.calls };
 
     ghost never_fails = { λ s. is_nothing s.fails };
 
     fn begin(&mut self, name: &str) -> Begun
         ensures answer { result ≡ begin_answer self.old }
-        ensures state { self.new ≡ after_begin self.old name.now }
-        ensures left { Begins (told_contents name.now (Some self.new.files)) self.new.left result }
-        ensures is_begun { is_some self.new.left ≡ is_ready result }
+        ensures state { self.new ≡ after_begin self.old name.now self.new.asked }
+        ensures left { Begins (told_contents name.now (Some self.new.files)) self.old.left self.new.left result }
+        ensures is_begun { is_some self.new.left ≡ begun_after (is_some self.old.left) result }
+        ensures asked { AskedOnce name.now 0 self.old.asked self.new.asked }
         ensures files { Some self.new.files ≡ Some self.old.files }
         ensures never_fails { is_nothing self.new.fails ≡ is_nothing self.old.fails }
         ensures cause { HasCause Begun.Failed (failed_calls self.old.fails self.old.calls) (failed_calls self.new.fails self.new.calls) result }
     {
+        self.asked.begin(name);
         if self.calls.next_fails() {
-            self.place = None;
             return Begun::Failed;
         }
         let file = number_of(self.files.as_slice(), name);
@@ -183,9 +191,10 @@ impl Shelf for MemShelf {
         requires begun { is_some self.old.left ≡ true }
         requires room { 0 < length buf.old }
         ensures answer { result ≡ read_answer self.old (length buf.old) }
-        ensures state { self.new ≡ after_read self.old (length buf.old) }
+        ensures state { self.new ≡ after_read self.old (length buf.old) self.new.asked }
         ensures count { GotAtMost (length buf.old) result }
         ensures bytes { Reads self.old.left self.new.left buf.new result }
+        ensures asked { TookMore (bytes_got result) self.old.asked self.new.asked }
         ensures is_begun { is_some self.new.left ≡ true }
         ensures files { Some self.new.files ≡ Some self.old.files }
         ensures never_fails { is_nothing self.new.fails ≡ is_nothing self.old.fails }
@@ -197,7 +206,7 @@ impl Shelf for MemShelf {
         let Some(place) = self.place else {
             unreachable!()
         };
-        let rest = bytes_behind(self.files.as_slice(), place);
+        let rest = bytes_from(self.files.as_slice(), place);
         if rest.is_empty() {
             return Got::End;
         }
@@ -206,6 +215,7 @@ impl Shelf for MemShelf {
             file: place.file,
             given: place.given + count,
         });
+        self.asked.take(count);
         Got::Bytes(count)
     }
 

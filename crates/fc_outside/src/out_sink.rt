@@ -2,6 +2,7 @@
 
 ghost use Rattle.std.specs.Prelude.{◌≡◌};
 
+use crate::again::write_again;
 use crate::outside::{Put, Sink};
 use std::io::Write;
 
@@ -34,12 +35,12 @@ impl<W: Write> Sink for OutSink<W> {
     ghost spare = { λ s. 0 };
 
     fn write(&mut self, piece: &[u8]) -> Put {
-        match self.writer.write(piece) {
-            Ok(0) | Err(_) => {
+        match write_again(&mut self.writer, piece) {
+            None | Some(0) => {
                 self.faults = self.faults.saturating_add(1);
                 Put::Failed
             }
-            Ok(count) => Put::Wrote(count),
+            Some(count) => Put::Wrote(count),
         }
     }
 }

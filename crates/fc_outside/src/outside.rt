@@ -2,7 +2,8 @@
 
 ghost use Rattle.std.specs.Prelude.{◌≡◌, ◌<◌, ℕ, Bool, List, Option, IsTrue, true, length};
 ghost use Rattle.fc_outside.specs.Causes.{HasCause};
-ghost use Rattle.fc_outside.specs.Contents.{told_contents, is_ready, Begins, GotAtMost, Reads, PutAtMost, Writes, Spares};
+ghost use Rattle.fc_outside.specs.Contents.{told_contents, begun_after, Begins, GotAtMost, Reads, PutAtMost, Writes, Spares};
+ghost use Rattle.fc_outside.specs.Requests.{AskedOnce, TookMore, bytes_got};
 
 /// What beginning a file came to.
 #[derive(Clone, Copy, Debug, PartialEq, Eq)]
@@ -45,28 +46,34 @@ pub trait Shelf {
     /// Whether a file has been begun.
     ghost is_begun: { Self → Bool };
 
+    /// What was asked for, where it is told: for each call of `begin`, the newest first, the name and how many
+    /// bytes were taken since.
+    ghost asked: { Self → Option (List (List ℕ × ℕ)) };
+
     /// How often a fault came.
     ghost faults: { Self → ℕ };
 
     /// Whether it never has a fault. No call changes it.
     ghost never_fails: { Self → Bool };
 
-    /// Begins the file with this name, from its start, in place of one that was begun before. At Failed no
-    /// file is begun, and nothing is said of what is left.
+    /// Begins the file with this name, from its start, in place of one that was begun before. At Failed what
+    /// was begun and what is left of it stay as they were.
     fn begin(&mut self, name: &str) -> Begun
-        ensures left { Begins (told_contents name.now (files self.new)) (left self.new) result }
-        ensures is_begun { is_begun self.new ≡ is_ready result }
+        ensures left { Begins (told_contents name.now (files self.new)) (left self.old) (left self.new) result }
+        ensures is_begun { is_begun self.new ≡ begun_after (is_begun self.old) result }
+        ensures asked { AskedOnce name.now 0 (asked self.old) (asked self.new) }
         ensures files { files self.new ≡ files self.old }
         ensures never_fails { never_fails self.new ≡ never_fails self.old }
         ensures cause { HasCause Begun.Failed (faults self.old) (faults self.new) result };
 
     /// Reads the next bytes of the begun file into the start of `buf`, at least one of them unless it is at
-    /// its end. What stands in `buf` behind them isn't said.
+    /// its end. What stands in `buf` after them isn't said.
     fn read(&mut self, buf: &mut [u8]) -> Got
         requires begun { is_begun self.old ≡ true }
         requires room { 0 < length buf.old }
         ensures count { GotAtMost (length buf.old) result }
         ensures bytes { Reads (left self.old) (left self.new) buf.new result }
+        ensures asked { TookMore (bytes_got result) (asked self.old) (asked self.new) }
         ensures is_begun { is_begun self.new ≡ true }
         ensures files { files self.new ≡ files self.old }
         ensures never_fails { never_fails self.new ≡ never_fails self.old }

@@ -1,7 +1,9 @@
 use super::*;
+use crate::again::{read_again, write_again};
 use sqlite_items::Items;
 use std::alloc::{AllocError, Global};
 use std::fs;
+use std::io::{Error, ErrorKind, Read, Write};
 use std::test::Fail;
 
 fn some_files(alloc: Global) -> Result<Files, AllocError> {
@@ -117,6 +119,71 @@ fn single_reads(alloc: Global) -> Result<([Got; 4], [u8; 6]), AllocError> {
     Ok((answers, buffer))
 }
 
+/// Whether a beginning that fails leaves the file that was begun before.
+fn goes_on_after_failed_begin(alloc: Global) -> Result<bool, AllocError> {
+    let fails = Items::from_slice(alloc, &[2])?;
+    let mut shelf = MemShelf::new(alloc, some_files(alloc)?, 4, fails)?;
+    let mut buffer = [0; 6];
+    Ok(
+        shelf.begin("a.c") == Begun::Ready
+            && shelf.begin("empty.c") == Begun::Failed
+            && shelf.read(&mut buffer) == Got::Bytes(4),
+    )
+}
+
+/// A stream that is interrupted so many times and then fails, or takes and gives one byte.
+#[derive(Drop)]
+struct Interrupted {
+    left: u32,
+    fails: bool,
+}
+
+impl Interrupted {
+    fn turn(&mut self) -> std::io::Result<usize> {
+        if self.left > 0 {
+            self.left -= 1;
+            return Err(Error::from(ErrorKind::Interrupted));
+        }
+        if self.fails {
+            return Err(Error::from(ErrorKind::WouldBlock));
+        }
+        Ok(1)
+    }
+}
+
+impl Read for Interrupted {
+    fn read(&mut self, buf: &mut [u8]) -> std::io::Result<usize> {
+        Ok(self.turn()?.min(buf.len()))
+    }
+}
+
+impl Write for Interrupted {
+    fn write(&mut self, buf: &[u8]) -> std::io::Result<usize> {
+        Ok(self.turn()?.min(buf.len()))
+    }
+
+    fn flush(&mut self) -> std::io::Result<()> {
+        Ok(())
+    }
+}
+
+#[test]
+fn interrupted_calls_are_tried_again(rt: HostRuntime) {
+    let cases = [
+        (0, false, Some(1)),
+        (1, false, Some(1)),
+        (999, false, Some(1)),
+        (1000, false, None),
+        (0, true, None),
+        (3, true, None),
+    ];
+    for (left, fails, want) in cases {
+        let got = read_again(&mut Interrupted { left, fails }, &mut [0; 2]);
+        let put = write_again(&mut Interrupted { left, fails }, b"ab");
+        assert!(rt; got == want && put == want, "{left} {fails}");
+    }
+}
+
 /// What four writes answer, of which the second fails, and the last finds no room.
 fn single_writes(alloc: Global) -> Result<[Put; 4], AllocError> {
     let fails = Items::from_slice(alloc, &[2])?;
@@ -137,9 +204,19 @@ fn single_calls_answer_so(rt: HostRuntime) -> Result<(), Fail> {
     let (answers, buffer) = single_reads(alloc)?;
     assert!(rt; answers == [Got::Bytes(4), Got::Failed, Got::Bytes(1), Got::End]);
     assert!(rt; buffer == *b"oell\0\0");
+    assert!(rt; goes_on_after_failed_begin(alloc)?);
     let answers = single_writes(alloc)?;
     assert!(rt; answers == [Put::Wrote(4), Put::Failed, Put::Wrote(2), Put::Failed]);
     Ok(())
+}
+
+/// Whether a file of five bytes gives them, and then its end each time.
+fn ends_twice<F: Shelf>(shelf: &mut F, name: &str) -> bool {
+    let mut buffer = [0; 9];
+    shelf.begin(name) == Begun::Ready
+        && shelf.read(&mut buffer) == Got::Bytes(5)
+        && shelf.read(&mut buffer) == Got::End
+        && shelf.read(&mut buffer) == Got::End
 }
 
 #[test]
@@ -147,7 +224,7 @@ fn files_of_the_system_are_read(rt: HostRuntime) -> Result<(), Fail> {
     fs::write(&rt, "a.txt", "hello")?;
     let mut shelf = FileShelf::new(&rt);
     let held = reads(rt.alloc(), &mut shelf, "a.txt", 100, Some("hello"))?;
-    assert!(rt; held, "a file");
+    assert!(rt; held && ends_twice(&mut shelf, "a.txt"), "a file");
     let held = reads(rt.alloc(), &mut shelf, "missing.txt", 100, None)?;
     assert!(rt; held, "a missing file");
     Ok(())

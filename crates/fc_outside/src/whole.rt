@@ -4,7 +4,9 @@ ghost use Rattle.std.specs.Prelude.{◌≡◌, ◌+◌, ◌^◌, ◌<◌, ◌≤
 ghost use Rattle.std.specs.Io.KnownBytes.{append_known, prepend_known};
 ghost use Rattle.fc_outside.specs.Causes.{Rose};
 ghost use Rattle.fc_outside.specs.Contents.{told_contents};
-ghost use Rattle.fc_outside.specs.Whole.{StepTaken, CauseOfStep, FirstBytes};
+ghost use Rattle.fc_outside.specs.Requests.{AskedAtMost, AskedOnce, TookMore, bytes_got};
+ghost use Rattle.fc_outside.specs.Whole.{FirstBytes};
+ghost use Rattle.fc_outside.specs.inner.Steps.{StepTaken, CauseOfStep};
 
 use crate::outside::{Begun, Got, Put, Shelf, Sink};
 use std::alloc::{AllocError, AllocFailed, Global};
@@ -53,6 +55,7 @@ where
     requires { limit < 2 ^ 32 }
     ensures bytes { IfOk result (λ bytes. FirstBytes (limit + 1) (told_contents name.now (F.files shelf.old)) bytes.items) }
     ensures length { IfOk result (λ bytes. length bytes.items ≤ limit + 1) }
+    ensures asked { AskedAtMost name.now (limit + 1) (F.asked shelf.old) (F.asked shelf.new) }
     ensures files { F.files shelf.new ≡ F.files shelf.old }
     ensures never_fails { F.never_fails shelf.new ≡ F.never_fails shelf.old }
     ensures later { F.faults shelf.old ≤ F.faults shelf.new }
@@ -74,7 +77,7 @@ where
     Ok(bytes)
 }
 
-/// Reads once and puts the bytes that came, at most `most`, behind `bytes`.
+/// Reads once and appends the bytes that came, at most `most`, to `bytes`.
 fn read_some<F: Shelf>(
     shelf: &mut F,
     buffer: &mut [u8],
@@ -86,6 +89,7 @@ where
     requires room { 0 < length buffer.old }
     requires most { 0 < most }
     ensures bytes { IfOk result (StepTaken (F.left shelf.old) (F.left shelf.new) bytes.old.items bytes.new.items most) }
+    ensures asked { (n : ℕ) × (n ≤ most) × TookMore n (F.asked shelf.old) (F.asked shelf.new) × IfOk result (λ _. length bytes.new.items ≡ length bytes.old.items + n) }
     ensures is_begun { F.is_begun shelf.new ≡ true }
     ensures files { F.files shelf.new ≡ F.files shelf.old }
     ensures never_fails { F.never_fails shelf.new ≡ F.never_fails shelf.old }
@@ -105,7 +109,8 @@ where
     }
 }
 
-/// Writes all of `bytes`, in as many pieces as the sink takes. At a fault the sink holds a first part of them.
+/// Writes all of `bytes`, in as many pieces as the sink takes. At a fault a prefix of them was appended to what
+/// the sink holds.
 #[tactic(auto, using(crate::proofs::Known::append_known_next))]
 pub fn write_all<S: Sink>(sink: &mut S, bytes: &[u8]) -> Result<(), WriteFault>
 where

@@ -1,4 +1,5 @@
 pub mod Emitters
+pub mod Ended
+pub mod External
 pub mod FirstLine
 pub mod Whole
-pub mod Reported

@@ -1,15 +1,19 @@
 -- A file of which at most 65,537 bytes were read.
 use Rattle.std.proofs.Common.{◌≡◌, ◌+◌, ◌<◌, ◌≤◌, inl, inr, ℕ, List, Option, None, Some, IfSome, length, take, min, refl, sym, ◌∙◌, ap, subst, arith}
+use Rattle.std.specs.Prelude.{Result, Ok, Err}
 use Rattle.std.proofs.lemmas.List.{take_all, length-take}
 use Rattle.std.proofs.lemmas.Bool.{lt-leb}
 use Rattle.std.proofs.lemmas.Bool.Decides.{leb_tells}
 use Rattle.c_front.specs.declared.tree.Unit.{Unit}
 use Rattle.c_front.specs.Program.{IsProgram}
 use Rattle.fc_outside.specs.Whole.{FirstBytes}
-use Rattle.c_ir.specs.declared.prop.Prop.{Prop}
+use Rattle.c_ir.specs.Props.{Props}
 use Rattle.status_history.specs.declared.history.Change.{Change}
-use Rattle.kernel_serve.specs.Batch.{NoTree}
+use Rattle.kernel_serve.specs.Stages.{NoTree}
 use Rattle.kernel_serve.specs.Script.{changes_of}
+use Rattle.kernel_serve.specs.declared.status.Status.{Status}
+use Rattle.kernel_serve.specs.declared.status.Status.TheVariants as S
+use Rattle.kernel_serve.specs.inner.Steps.{GivesChanges, UnlessReadFault}
 
 -- what was read is all, if it is within the limit
 pub all_read : (all : List ℕ) (most : ℕ) → length (take (most + 1) all) ≤ most → take (most + 1) all ≡ all
@@ -33,18 +37,35 @@ no_tree_of_all (Some all) bytes first none =
     let e : bytes ≡ all = first ∙ take_all 65537 all (omega (arith, h)) in
     none u (subst (λ (bs : List ℕ). IsProgram bs u) (sym e) p)
 
+-- where what was read is refused, all is
+pub refused_all : (told : Option (List ℕ)) (status : Status) → IfSome told NoTree → IfSome told (λ all. (status ≡ status) × NoTree all)
+refused_all None status none = tt
+refused_all (Some all) status none = (refl, none)
+
+-- a fact, unless the answer is a fault of the shelf
+unless : {A : Type 0} (answer : Result A Status) (fact : Type 0) → fact → UnlessReadFault answer fact
+unless (Ok x) fact h = h
+unless (Err S.ReadFault) fact h = tt
+unless (Err S.Memory) fact h = h
+unless (Err S.Done) fact h = h
+unless (Err (S.Refused f)) fact h = h
+unless (Err S.Usage) fact h = h
+unless (Err S.WriteFault) fact h = h
+
 -- what was read makes the changes that all makes
-changes_of_take : (rows : List Prop) (all : List ℕ) → changes_of rows (take 65537 all) ≡ changes_of rows all
+changes_of_take : (t : Props) (all : List ℕ) → changes_of t (take 65537 all) ≡ changes_of t all
 unfolding changes_of
-changes_of_take rows all =
+changes_of_take t all =
     elim (leb_tells (length all) 65536) [
-      | inl p ↦ let h : length all ≤ 65536 = p.1 in ap (changes_of rows) (take_all (65536 + 1) all (omega (arith, h)))
+      | inl p ↦ let h : length all ≤ 65536 = p.1 in ap (changes_of t) (take_all (65536 + 1) all (omega (arith, h)))
       | inr q ↦
           let h : 65536 < length all = q.1 in
           let e : length (take 65537 all) ≡ min 65537 (length all) = length-take 65537 all in
           rw (lt-leb (length (take 65537 all)) 65536 (omega (arith, e, h)), q.0) refl
     ]
 
-pub changes_of_all : (rows : List Prop) (told : Option (List ℕ)) (bytes : List ℕ) (wanted : Option (List Change)) → FirstBytes 65537 told bytes → changes_of rows bytes ≡ wanted → IfSome told (λ all. changes_of rows all ≡ wanted)
-changes_of_all rows None bytes wanted first h = tt
-changes_of_all rows (Some all) bytes wanted first h = sym (ap (changes_of rows) first ∙ changes_of_take rows all) ∙ h
+pub changes_of_all : (t : Props) (told : Option (List ℕ)) (bytes : List ℕ) (answer : Result (List Change) Status) → FirstBytes 65537 told bytes → GivesChanges (changes_of t bytes) answer → IfSome told (λ all. UnlessReadFault answer (GivesChanges (changes_of t all) answer))
+changes_of_all t None bytes answer first h = tt
+changes_of_all t (Some all) bytes answer first h =
+    let same : changes_of t bytes ≡ changes_of t all = ap (changes_of t) first ∙ changes_of_take t all in
+    unless answer (GivesChanges (changes_of t all) answer) (subst (λ wanted. GivesChanges wanted answer) same h)

@@ -1,8 +1,9 @@
-pub mod Words
-pub mod Status
 pub mod Allowed
+pub mod Asked
+pub mod Headline
 pub mod Script
-pub mod Known
-pub mod Batch
-pub mod Steps
-pub mod Truth
+pub mod Stages
+pub mod Status
+pub mod Told
+pub mod Words
+pub mod inner

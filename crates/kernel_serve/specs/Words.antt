@@ -1,4 +1,4 @@
--- The words of a call (this project's own): `report FILE --script EVENTS`.
+-- The words of a command (this project's own): `report FILE --script EVENTS`.
 use Rattle.std.specs.Prelude.{ℕ, Bool, true, false, not, ◌&&◌, ◌==◌, List, [], ◌∷◌, Option, None, Some, codes, bytes_eq, if◌then◌else◌}
 
 -- words that can't name a script: the empty one, and those that begin with `-`
@@ -17,11 +17,16 @@ abbrev pub asks_report : List ℕ → List ℕ → List ℕ → List ℕ → Boo
 asks_report call file flag events =
     bytes_eq call (codes "report") && (bytes_eq flag (codes "--script") && (not (is_option file) && not (is_no_events events)))
 
--- the names of the file and of the script, where the words are a call
-abbrev pub line_of : List (List ℕ) → Option (List ℕ × List ℕ)
-line_of [] = None
-line_of (call ∷ []) = None
-line_of (call ∷ file ∷ []) = None
-line_of (call ∷ file ∷ flag ∷ []) = None
-line_of (call ∷ file ∷ flag ∷ events ∷ []) = if asks_report call file flag events then Some (file, events) else None
-line_of (call ∷ file ∷ flag ∷ events ∷ more ∷ rest) = None
+-- the command that words are: the names of the file and of the script; none where they are no command
+pub record Command : Type 0 where
+  pub file : List ℕ
+  pub script : List ℕ
+
+abbrev pub report_command : List (List ℕ) → Option Command
+report_command [] = None
+report_command (call ∷ []) = None
+report_command (call ∷ file ∷ []) = None
+report_command (call ∷ file ∷ flag ∷ []) = None
+report_command (call ∷ file ∷ flag ∷ events ∷ []) =
+    if asks_report call file flag events then Some (record { file = file; script = events }) else None
+report_command (call ∷ file ∷ flag ∷ events ∷ more ∷ rest) = None

@@ -3,20 +3,21 @@
 ghost use Rattle.std.specs.Prelude.{◌≡◌, ◌≤◌, ◌↔◌, IfErr, IfOk, IfSome, None, map, string_bytes};
 ghost use Rattle.std.specs.Result.{IsErrOf};
 ghost use Rattle.fc_outside.specs.Causes.{Rose};
-ghost use Rattle.fc_outside.specs.Contents.{contents_of};
-ghost use Rattle.kernel_serve.specs.Words.{line_of};
-ghost use Rattle.kernel_serve.specs.Batch.{history_of, report_of, IsReport, OutcomeIfTold, WrittenOnly};
-ghost use Rattle.kernel_serve.specs.Steps.{StopsFor};
-ghost use Rattle.kernel_serve.specs.Truth.{TrueIfTold};
+ghost use Rattle.kernel_serve.specs.Asked.{AsksFiles, WasAsked};
+ghost use Rattle.kernel_serve.specs.Headline.{Complete, Outcome, Says, Unwritten};
+ghost use Rattle.kernel_serve.specs.Stages.{AtFile, history_of, report_of};
+ghost use Rattle.kernel_serve.specs.Told.{WhereTold};
+ghost use Rattle.kernel_serve.specs.Words.{report_command};
+ghost use Rattle.kernel_serve.specs.inner.Steps.{IsStop, StopsAtFile, command_of};
 
-use crate::inputs::{InputFault, changes_in, tree_of};
-use crate::status::{FrontFault, Input, Status};
-use crate::words::named_files;
+use crate::inputs::{changes_in, tree_of};
+use crate::status::Status;
+use crate::words::{Command, report_command};
 use c_first_runs::program_verdicts_are_true;
-use c_front::table;
+use c_front::{one_tree, table};
 use c_ir::PropTable;
-use fc_base::ParamValues;
 use fc_outside::{Shelf, Sink, WriteFault, write_all};
+use param_book::opening;
 use report_print::report;
 use status_history::{Changes, History};
 use status_rules::full;
@@ -25,22 +26,13 @@ use std::alloc::{AllocError, Global};
 /// The number of the function `main`, the only one.
 const MAIN: u32 = 0;
 
-/// Why there is no report to write.
-pub(crate) enum Stop {
-    /// This file isn't of the form that is built.
-    Refused(Input),
-    /// The shelf had a fault.
-    Read,
-    /// There was no memory.
-    Memory,
-}
-
-/// Answers the call that these words are, those behind the program's name: `report FILE --script EVENTS`
+/// Answers the command that these words are, those after the program's name: `report FILE --script EVENTS`
 /// (this project's own). FILE may be empty, but is no option, which has two bytes or more and begins with
-/// `-`; EVENTS isn't empty and doesn't begin with `-`. Other words are Usage.
+/// `-`; EVENTS isn't empty and doesn't begin with `-`. Other words are Usage, and then nothing is read.
 ///
-/// Refused comes exactly where the named file is no program (`c_front::unit`), and where it is one but the
-/// script isn't one of at most 65,536 bytes whose lines are each blank or ask for a change that is allowed:
+/// The file is read first, and refused where it is no program (`c_front::unit`). Else the script is read, and
+/// refused where it isn't one of at most 65,536 bytes whose lines are each blank or ask for a change that is
+/// allowed:
 ///
 /// - `{"register":NAME,"correctness":[]}`, where no emitter has the name and there are fewer than 256;
 /// - `{"emit":EMITTER,"prop":NAME,"status":STATUS,"hyps":[NAME, ..]}`, where an earlier line registered the
@@ -49,10 +41,11 @@ pub(crate) enum Stop {
 /// (`event_script::Script::line` has the forms whole.) Else the report on the program's properties with the
 /// verdicts that these changes come to (`status_rules::full`) is written, and all of it at Done. ReadFault and
 /// WriteFault come only where the shelf or the sink had a fault, and Memory where there was no memory; at
-/// WriteFault the sink holds a first part of the report, else nothing of it.
+/// WriteFault a prefix of the report was written, and on every other status but Done nothing.
 ///
-/// At Done, where the entries that count are locally right over the runs of the program (each status follows from
-/// its hypotheses; after Correnson and Signoles), each printed verdict is true of these runs (clause `truth`).
+/// At Done, where the counted entries of the emitters that the script registered are locally right over the runs
+/// of the program (each status follows from its hypotheses; after Correnson and Signoles), each verdict is true
+/// of these runs (clause `truth`). The file `specs/Headline.antt` has what the first clauses say.
 pub fn report_run<F: Shelf, S: Sink>(
     alloc: Global,
     words: &[String],
@@ -60,10 +53,12 @@ pub fn report_run<F: Shelf, S: Sink>(
     out: &mut S,
 ) -> Status
 where
-    ensures usage { (result ≡ Status.Usage) ↔ (line_of (map string_bytes words.now) ≡ None) }
-    ensures outcome { OutcomeIfTold (map string_bytes words.now) (F.files shelf.old) (S.held out.old) (S.held out.new) result }
-    ensures truth { TrueIfTold (map string_bytes words.now) (F.files shelf.old) (S.held out.old) (S.held out.new) result }
-    ensures unwritten { WrittenOnly (S.held out.old) (S.held out.new) result }
+    ensures truth { WhereTold (F.files shelf.old) (S.held out.old) (S.held out.new) (Says (map string_bytes words.now) result) }
+    ensures outcome { WhereTold (F.files shelf.old) (S.held out.old) (S.held out.new) (Outcome (map string_bytes words.now) result) }
+    ensures complete { (Rose (F.faults shelf.old) (F.faults shelf.new) → ⊥) → (Rose (S.faults out.old) (S.faults out.new) → ⊥) → WhereTold (F.files shelf.old) (S.held out.old) (S.held out.new) (Complete (map string_bytes words.now) result) }
+    ensures asked { WasAsked (map string_bytes words.now) (F.files shelf.old) (F.asked shelf.old) (F.asked shelf.new) }
+    ensures usage { (result ≡ Status.Usage) ↔ (report_command (map string_bytes words.now) ≡ None) }
+    ensures unwritten { Unwritten (S.held out.old) (S.held out.new) result }
     ensures read { result ≡ Status.ReadFault → Rose (F.faults shelf.old) (F.faults shelf.new) }
     ensures write { result ≡ Status.WriteFault → Rose (S.faults out.old) (S.faults out.new) }
     ensures reads { F.faults shelf.old ≤ F.faults shelf.new }
@@ -71,16 +66,15 @@ where
     ensures files { F.files shelf.new ≡ F.files shelf.old }
     ensures never_fails { F.never_fails shelf.new ≡ F.never_fails shelf.old }
 {
-    let Some((file, events)) = named_files(words) else {
+    program_verdicts_are_true();
+    one_tree();
+    let Some(command) = report_command(words) else {
         return Status::Usage;
     };
-    let text = match prepared(alloc, shelf, file, events) {
+    let text = match prepared(alloc, shelf, command) {
         Ok(text) => text,
-        Err(Stop::Refused(input)) => return Status::Refused(FrontFault::Unbuilt(input)),
-        Err(Stop::Read) => return Status::ReadFault,
-        Err(Stop::Memory) => return Status::Memory,
+        Err(status) => return status,
     };
-    program_verdicts_are_true();
     match write_all(out, text.as_slice()) {
         Ok(()) => Status::Done,
         Err(WriteFault) => Status::WriteFault,
@@ -88,42 +82,36 @@ where
 }
 
 /// Reads both files and makes the report.
-fn prepared<F: Shelf>(
-    alloc: Global,
-    shelf: &mut F,
-    file: &str,
-    events: &str,
-) -> Result<Vec<u8>, Stop>
+fn prepared<F: Shelf>(alloc: Global, shelf: &mut F, command: Command) -> Result<Vec<u8>, Status>
 where
-    ensures text { IfSome (F.files shelf.old) (λ files. IfOk result (λ text. IsReport (contents_of file.now files) (contents_of events.now files) Status.Done text.items)) }
-    ensures stops { IfSome (F.files shelf.old) (λ files. IfErr result (StopsFor (contents_of file.now files) (contents_of events.now files))) }
-    ensures read { IsErrOf result Stop.Read → Rose (F.faults shelf.old) (F.faults shelf.new) }
+    ensures text { IfSome (F.files shelf.old) (λ files. IfOk result (λ text. AtFile files (command_of command.entry) Status.Done text.items)) }
+    ensures stops { IfSome (F.files shelf.old) (λ files. IfErr result (StopsAtFile files (command_of command.entry))) }
+    ensures ends { IfErr result IsStop }
+    ensures asked { AsksFiles (F.files shelf.old) (F.asked shelf.old) (F.asked shelf.new) (command_of command.entry) }
+    ensures read { IsErrOf result Status.ReadFault → Rose (F.faults shelf.old) (F.faults shelf.new) }
     ensures later { F.faults shelf.old ≤ F.faults shelf.new }
     ensures files { F.files shelf.new ≡ F.files shelf.old }
     ensures never_fails { F.never_fails shelf.new ≡ F.never_fails shelf.old }
 {
-    let unit = match tree_of(alloc, shelf, file) {
+    let unit = match tree_of(alloc, shelf, command.file) {
         Ok(unit) => unit,
-        Err(InputFault::Refused) => return Err(Stop::Refused(Input::File)),
-        Err(InputFault::Read) => return Err(Stop::Read),
-        Err(InputFault::Memory) => return Err(Stop::Memory),
+        Err(refusal) => return Err(refusal),
     };
     let Ok(props) = table(alloc, &unit) else {
-        return Err(Stop::Memory);
+        return Err(Status::Memory);
     };
-    let changes = match changes_in(alloc, shelf, events, &props) {
+    let changes = match changes_in(alloc, shelf, command.script, &props) {
         Ok(changes) => changes,
-        Err(InputFault::Refused) => return Err(Stop::Refused(Input::Script)),
-        Err(InputFault::Read) => return Err(Stop::Read),
-        Err(InputFault::Memory) => return Err(Stop::Memory),
+        Err(status) => return Err(status),
     };
     match report_of(alloc, &props, changes) {
         Ok(text) => Ok(text),
-        Err(AllocError) => Err(Stop::Memory),
+        Err(AllocError) => Err(Status::Memory),
     }
 }
 
 /// The report on these properties and changes.
+#[tactic(auto, unfolding(crate::specs::Stages::report_of))]
 fn report_of(alloc: Global, props: &PropTable, changes: Changes) -> Result<Vec<u8>, AllocError>
     ensures { IfOk result (λ text. text.items ≡ report_of props.now changes) }
 {
@@ -137,7 +125,7 @@ fn history_of(changes: Changes) -> History
     ensures { result ≡ history_of changes }
 {
     History {
-        opening: ParamValues::opening(MAIN, false),
+        opening: opening(MAIN, false),
         changes,
     }
 }

@@ -4,7 +4,7 @@ ghost use Rattle.std.specs.Prelude.{◌≡◌, ◌==◌, ◌<◌, ◌∷◌, [],
 ghost use Rattle.std.specs.Option.{option_map_or};
 ghost use Rattle.kernel_serve.specs.Script.{lines_of};
 
-/// The first line, without its LF, and what stands behind the LF; None where there is none.
+/// The first line, without its LF, and what comes after the LF; None where there is none.
 #[tactic(auto, using(crate::proofs::FirstLine::split_some, crate::proofs::FirstLine::split_none))]
 pub(crate) fn first_line(text: &[u8]) -> (&[u8], Option<&[u8]>)
     ensures lines { lines_of text.now ≡ result.0.now ∷ option_map_or (λ rest. lines_of rest.now) result.1 [] }

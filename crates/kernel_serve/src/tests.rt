@@ -297,7 +297,7 @@ fn each_write_may_fail(rt: HostRuntime) -> Result<(), Fail> {
             Status::WriteFault,
             part,
         )?;
-        assert!(rt; holds, "behind {written} bytes");
+        assert!(rt; holds, "after {written} bytes");
     }
     Ok(())
 }

@@ -1,18 +1,25 @@
-//! The words of a call.
+//! The words of a command.
 
 ghost use Rattle.std.specs.Prelude.{◌≡◌, MatchOption, map, string_bytes};
-ghost use Rattle.kernel_serve.specs.Words.{is_option, is_no_events, asks_report, line_of};
+ghost use Rattle.kernel_serve.specs.Words.{is_option, is_no_events, asks_report, report_command};
 
-/// The names of the file and of the script that the words name; None where they are no call.
-pub(crate) fn named_files(words: &[String]) -> Option<(&str, &str)>
-    ensures { MatchOption result (line_of (map string_bytes words.now) ≡ None) (λ line. line_of (map string_bytes words.now) ≡ Some (line.0.now, line.1.now)) }
+/// The names that a command has.
+#[derive(Clone, Copy)]
+pub(crate) struct Command<'w> {
+    pub(crate) file: &'w str,
+    pub(crate) script: &'w str,
+}
+
+/// The command that words are; None where they are none.
+pub(crate) fn report_command(words: &[String]) -> Option<Command>
+    ensures { MatchOption result (report_command (map string_bytes words.now) ≡ None) (λ c. report_command (map string_bytes words.now) ≡ Some (record { file = c.file.now; script = c.script.now })) }
 {
     let [call, file, flag, events] = words else {
         return None;
     };
-    let (file, events) = (file.as_str(), events.as_str());
-    if asks_report(call.as_str(), file, flag.as_str(), events) {
-        Some((file, events))
+    let (file, script) = (file.as_str(), events.as_str());
+    if asks_report(call.as_str(), file, flag.as_str(), script) {
+        Some(Command { file, script })
     } else {
         None
     }

@@ -1,19 +1,15 @@
--- The text of a report (this project's own format).
-use Rattle.std.specs.Prelude.{◌==◌, ◌+◌, ℕ, Bool, true, false, ◌||◌, not, List, [], ◌∷◌, ◌++◌, length, filter, codes, if◌then◌else◌}
+-- The text of a report: `report_text` (this project's own format).
+use Rattle.std.specs.Prelude.{◌==◌, ◌+◌, ℕ, Bool, ◌||◌, not, List, [], ◌∷◌, ◌++◌, length, filter, codes, if◌then◌else◌}
 use Rattle.std.specs.Fmt.{decimal}
 use Rattle.std.specs.List.{zip}
 use Rattle.fc_base.specs.declared.verdict.Verdict.{Verdict}
-use Rattle.fc_base.specs.declared.verdict.Verdict.TheVariants.{NeverTried, ConsideredValid, Valid, ValidUnderHyp, Unknown, Invalid, InvalidUnderHyp, InvalidButDead, ValidButDead, UnknownButDead, Inconsistent}
-use Rattle.fc_base.specs.Texts.{verdict_text}
-use Rattle.c_ir.specs.declared.kind.Kind.{Kind}
-use Rattle.c_ir.specs.declared.kind.Kind.TheVariants as kind
+use Rattle.fc_base.specs.contracts.verdict.Verdict.{the_type}
+use Rattle.fc_base.specs.Texts.{all_verdicts, verdict_text}
+use denote.Enum.Bare.{sameb}
+use Rattle.c_ir.specs.Kinds.{is_dead}
 use Rattle.c_ir.specs.declared.prop.Prop.{Prop}
 
 -- whether a property is printed: those of kind Dead only where the points are asked for
-abbrev pub is_dead : Kind → Bool
-is_dead kind.Dead = true
-is_dead k = false
-
 abbrev pub is_printed : Bool → Prop → Bool
 is_printed points p = points || not (is_dead p.kind)
 
@@ -38,33 +34,10 @@ rows_text (row ∷ rows) = row_text row.0 row.1 ++ rows_text rows
 unfoldable pub total_text : ℕ → List ℕ
 total_text n = codes "Total " ++ (decimal n ++ codes "\n")
 
--- the verdicts in the order of the counts
-abbrev pub count_order : List Verdict
-count_order =
-    NeverTried ∷ ConsideredValid ∷ Valid ∷ ValidUnderHyp ∷ Unknown ∷ Invalid ∷ InvalidUnderHyp
-    ∷ InvalidButDead ∷ ValidButDead ∷ UnknownButDead ∷ Inconsistent ∷ []
-
--- a verdict's place in that order, and whether two are the same
-abbrev pub place_of : Verdict → ℕ
-place_of NeverTried = 0
-place_of ConsideredValid = 1
-place_of Valid = 2
-place_of ValidUnderHyp = 3
-place_of Unknown = 4
-place_of Invalid = 5
-place_of InvalidUnderHyp = 6
-place_of InvalidButDead = 7
-place_of ValidButDead = 8
-place_of UnknownButDead = 9
-place_of Inconsistent = 10
-
-abbrev pub is_same : Verdict → Verdict → Bool
-is_same a b = place_of a == place_of b
-
 -- how many have this verdict
 abbrev pub count_of : Verdict → List (Prop × Verdict) → ℕ
 count_of verdict [] = 0
-count_of verdict (row ∷ rows) = if is_same row.1 verdict then count_of verdict rows + 1 else count_of verdict rows
+count_of verdict (row ∷ rows) = if sameb the_type row.1 verdict then count_of verdict rows + 1 else count_of verdict rows
 
 -- a verdict's line, unless none has it
 unfoldable pub count_text : Verdict → ℕ → List ℕ
@@ -77,7 +50,7 @@ counts_text rows (v ∷ vs) = count_text v (count_of v rows) ++ counts_text rows
 
 -- the report: each printed property's line, their number, and how many have each verdict
 abbrev pub text_of : List (Prop × Verdict) → List ℕ
-text_of rows = rows_text rows ++ (total_text (length rows) ++ counts_text rows count_order)
+text_of rows = rows_text rows ++ (total_text (length rows) ++ counts_text rows all_verdicts)
 
-abbrev pub report_text : List Prop → List Verdict → Bool → List ℕ
+unfoldable pub report_text : List Prop → List Verdict → Bool → List ℕ
 report_text props verdicts points = text_of (printed points props verdicts)

@@ -2,11 +2,11 @@
 
 ghost use Rattle.std.specs.Prelude.{◌≡◌, ◌≤◌, ◌++◌, IfOk, OnOk, length};
 ghost use Rattle.fc_base.specs.Texts.{verdict_text};
-ghost use Rattle.report_print.specs.Report.{is_dead, printed, row_text, rows_text, total_text, count_of, count_text, counts_text, report_text};
-ghost use Rattle.report_print.specs.Rows.{row_view, rows_view, printed_one};
+ghost use Rattle.report_print.specs.Report.{printed, row_text, rows_text, total_text, count_of, count_text, counts_text, report_text};
+ghost use Rattle.report_print.specs.inner.Rows.{row_view, rows_view, printed_one};
 
-use c_ir::{Kind, Prop, PropTable};
-use fc_base::{VERDICTS, Verdict};
+use c_ir::{Prop, PropTable};
+use fc_base::Verdict;
 use std::alloc::{AllocError, Global};
 
 /// A printed property with its verdict.
@@ -20,6 +20,7 @@ pub(crate) struct Row<'p> {
 /// name, its line, its verdict's word and, in parentheses, its label if it has one; then their number; and
 /// then, for each verdict that some of them have, its word and how many have it. Properties of kind Dead are
 /// printed and counted only if `points` is set.
+#[tactic(auto, unfolding(crate::specs::Report::report_text))]
 pub fn report(
     alloc: Global,
     props: &PropTable,
@@ -33,7 +34,7 @@ pub fn report(
     let mut text = Vec::new(alloc);
     push_rows(alloc, &mut text, &rows)?;
     push_total(alloc, &mut text, rows.len())?;
-    push_counts(alloc, &mut text, &rows, &VERDICTS)?;
+    push_counts(alloc, &mut text, &rows, &Verdict::all())?;
     Ok(text)
 }
 
@@ -62,16 +63,10 @@ fn push_if_printed<'p>(
 ) -> Result<(), AllocError>
     ensures { OnOk result (rows_view rows.new.items ≡ rows_view rows.old.items ++ printed_one points (row_view row.entry)) }
 {
-    if points || !is_dead(row.prop.kind) {
+    if points || !row.prop.kind.is_dead() {
         rows.push(row)?;
     }
     Ok(())
-}
-
-fn is_dead(kind: Kind) -> bool
-    ensures { result ≡ is_dead kind }
-{
-    matches!(kind, Kind::Dead)
 }
 
 /// The lines of the properties.

@@ -1,2 +1,4 @@
-pub mod Counting
-pub mod Parameters
+pub mod Claims
+pub mod Laws
+pub mod Values
+pub mod inner

@@ -1,10 +1,12 @@
 //! What a history is made of.
 
-ghost use Rattle.std.specs.Prelude.{◌≡◌, [], ◌∷◌};
-ghost use Rattle.status_history.specs.Parameters.{version_of, values_now, sets_param, changed_by, changed_at, params_set};
+ghost use Rattle.std.specs.Prelude.{◌≡◌, [], ◌∷◌, IfOk};
+ghost use Rattle.status_history.specs.Values.{version_of, values_now, all_values, changed_by, changed_at, params_set};
+ghost use Rattle.status_history.specs.inner.Changes.{sets_param};
 
 use fc_base::{EmitterId, LocalStatus, Name, ParamSet, ParamValues, PropId};
 use sqlite_items::Items;
+use std::alloc::{AllocError, Global};
 
 /// The hypotheses of an entry.
 pub type Hyps = Items<PropId>;
@@ -23,15 +25,15 @@ pub struct Entry {
     pub status: LocalStatus,
     /// The properties that the status takes for granted.
     pub hyps: Hyps,
-    /// How many Param changes stood before the values that the emitter worked with.
+    /// How many Param changes came before the values that the emitter worked with.
     pub version: u32,
 }
 
 /// One step of a history.
 #[derive(Debug, Drop)]
 pub enum Change {
-    /// An emitter joins. It gets the next number, the first of them 4, and its entries rest on these
-    /// parameters besides 0 to 2.
+    /// An emitter joins, and gets the next number. Its entries rest on these parameters, and on those that
+    /// runs depend on.
     Register { name: Name, correctness: ParamSet },
     /// A parameter gets a value. A number past 15 changes nothing.
     Param { number: u8, value: i64 },
@@ -46,10 +48,6 @@ pub struct History {
     pub opening: ParamValues,
     pub changes: Changes,
 }
-
-/// The correctness sets of emitters 0 to 3, which are there at the opening: `kernel`, `rte`, `eva` and
-/// `replay`.
-pub const RESERVED_SETS: [ParamSet; 4] = [ParamSet(7), ParamSet(7), ParamSet(31), ParamSet(7)];
 
 impl History {
     /// The number of Param changes.
@@ -73,17 +71,33 @@ impl History {
         }
         values
     }
+
+    /// The values of the parameters at each version, from the opening to the end.
+    pub fn values_by_version(&self, alloc: Global) -> Result<Vec<ParamValues>, AllocError>
+        ensures { IfOk result (λ vs. vs.items ≡ all_values self.now.opening (params_set self.now.changes)) }
+    {
+        let mut versions = Vec::new(alloc);
+        let mut values = self.opening;
+        for change in self.changes.as_slice() {
+            if is_param(change) {
+                versions.push(values)?;
+            }
+            values = after(values, change);
+        }
+        versions.push(values)?;
+        Ok(versions)
+    }
 }
 
 /// Whether a change sets a parameter.
-pub(crate) fn is_param(change: &Change) -> bool
+fn is_param(change: &Change) -> bool
     ensures { result ≡ sets_param change.now }
 {
     matches!(change, Change::Param { .. })
 }
 
 /// The values after a change.
-pub(crate) fn after(values: ParamValues, change: &Change) -> ParamValues
+fn after(values: ParamValues, change: &Change) -> ParamValues
     ensures { result ≡ changed_by values (params_set (change.now ∷ [])) }
 {
     match change {

@@ -1,10 +1,11 @@
-//! Histories: registrations, settings of parameters and entries, and which entries are current.
+//! Histories: registrations, settings of parameters and entries; the values at each version; and what entries
+//! claim of runs.
 #![tactic(auto)]
 
-mod entries;
 mod history;
+mod laws;
 #[cfg(test)]
 mod tests;
 
-pub use entries::current;
-pub use history::{Change, Changes, Entries, Entry, History, Hyps, RESERVED_SETS};
+pub use history::{Change, Changes, Entries, Entry, History, Hyps};
+pub use laws::values_stay;

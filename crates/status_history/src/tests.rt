@@ -1,73 +1,56 @@
 //! Histories on small examples.
 
-use crate::{Change, Changes, Entry, History, RESERVED_SETS, current};
+use crate::{Change, Entry, History, values_stay};
 use fc_base::{Bounded, EmitterId, LocalStatus, ParamSet, ParamValues, PropId};
 use sqlite_items::Items;
 use std::alloc::{AllocError, Global};
 
-/// An entry of an emitter at a version; the property tells it from others.
-fn emit(alloc: Global, emitter: u32, prop: u32, version: u32) -> Change {
-    Change::Emit(Entry {
-        emitter: EmitterId(emitter),
-        prop: PropId(prop),
-        status: LocalStatus::True,
-        hyps: Items::new(alloc),
-        version,
-    })
-}
-
-/// An emitter that rests on parameter 9 joins, parameters change, and entries come.
-fn changes(alloc: Global) -> Result<Changes, AllocError> {
+/// Parameters 9, 4 and a number past the last are set, between a registration and an entry.
+fn history(alloc: Global) -> Result<History, AllocError> {
     let mut changes = Items::new(alloc);
-    let set = |number, value| Change::Param { number, value };
-    changes.push(emit(alloc, 0, 10, 0))?;
-    changes.push(set(9, 5))?;
+    changes.push(Change::Param {
+        number: 9,
+        value: 5,
+    })?;
     changes.push(Change::Register {
         name: Bounded::new(alloc, "nine")?,
         correctness: ParamSet(512),
     })?;
-    changes.push(emit(alloc, 4, 11, 0))?;
-    changes.push(emit(alloc, 4, 12, 1))?;
-    changes.push(emit(alloc, 0, 13, 0))?;
-    changes.push(set(4, 2))?;
-    changes.push(emit(alloc, 2, 14, 1))?;
-    changes.push(emit(alloc, 3, 15, 1))?;
-    changes.push(emit(alloc, 2, 16, 2))?;
-    changes.push(set(2, 0))?;
-    changes.push(emit(alloc, 5, 17, 2))?;
-    changes.push(set(2, 1))?;
-    changes.push(set(16, 7))?;
-    changes.push(emit(alloc, 5, 18, 3))?;
-    changes.push(emit(alloc, 5, 19, 99))?;
-    Ok(changes)
+    changes.push(Change::Param {
+        number: 4,
+        value: 2,
+    })?;
+    changes.push(Change::Emit(Entry {
+        emitter: EmitterId(4),
+        prop: PropId(0),
+        status: LocalStatus::True,
+        hyps: Items::new(alloc),
+        version: 1,
+    }))?;
+    changes.push(Change::Param {
+        number: 16,
+        value: 7,
+    })?;
+    let opening = ParamValues { values: [0; 16] };
+    Ok(History { opening, changes })
 }
 
 #[test]
-fn tells_current_entries(rt: HostRuntime) -> Result<(), AllocError> {
+fn values_at_each_version(rt: HostRuntime) -> Result<(), AllocError> {
     let alloc = rt.alloc();
-    let opening = ParamValues::opening(3, true);
-    let history = History {
-        opening,
-        changes: changes(alloc)?,
-    };
-    assert_eq!(rt; history.version(), 5);
-    let mut end = opening;
-    end.set(9, 5);
-    end.set(4, 2);
-    assert!(rt; history.values() == end);
-    let found = current(alloc, &history)?;
-    let wanted = [10, 12, 13, 15, 16, 17, 19];
-    assert_eq!(rt; found.len(), wanted.len());
-    for (entry, prop) in found.iter().zip(wanted.iter()) {
-        assert_eq!(rt; entry.prop.0, *prop);
+    let history = history(alloc)?;
+    assert_eq!(rt; history.version(), 3);
+    let nines = [0, 5, 5, 5];
+    let fours = [0, 0, 2, 2];
+    let versions = history.values_by_version(alloc)?;
+    assert_eq!(rt; versions.len(), 4);
+    for (version, values) in versions.iter().enumerate() {
+        if version < 4 {
+            assert!(rt; values.get(9) == nines[version] && values.get(4) == fours[version]);
+        }
     }
+    let end = history.values();
+    assert!(rt; end.get(9) == 5 && end.get(4) == 2 && end.get(15) == 0);
+    values_stay();
     Ok(())
-}
-
-#[test]
-fn reserves_four_sets(rt: HostRuntime) {
-    let rests = [3, 3, 5, 3];
-    for (set, count) in RESERVED_SETS.iter().zip(rests.iter()) {
-        assert_eq!(rt; set.0.count_ones(), *count);
-    }
 }

@@ -1,6 +1,7 @@
 -- A function at the number of each element of a list.
-use Rattle.std.proofs.Common.{◌≡◌, ◌≢◌, ℕ, zero, suc, ◌+◌, ◌<◌, ◌≤◌, List, [], ◌∷◌, ◌++◌, append_assoc, length, get_or, set, drop, map, refl, sym, ap, ◌∙◌, arith}
-use Rattle.status_rules.specs.Verdicts.{at_each}
+use Rattle.std.proofs.Common.{◌≡◌, ◌≢◌, ℕ, zero, suc, ◌+◌, ◌<◌, ◌≤◌, List, [], ◌∷◌, ◌++◌, append_assoc, length, get_or, set, drop, map, refl, sym, ap, ◌∙◌, ◌⊎◌, inl, inr, arith}
+use Rattle.std.proofs.lemmas.List.{drop_all, append-nil}
+use Rattle.status_rules.specs.Holds.{at_each}
 
 at_each-drop : {A B : Type 0} (f : ℕ → B) (n i : ℕ) (xs : List A) → i < length xs → at_each f n (drop i xs) ≡ f n ∷ at_each f (n + 1) (drop (i + 1) xs)
 at_each-drop f n i [] h = absurd (omega arith)
@@ -49,3 +50,15 @@ set-at_each f g n (x ∷ xs) (suc p) y here else_same =
     let first = else_same n (λ same. absurd (omega arith)) in
     let rest = set-at_each f g (n + 1) xs p y (λ h. here (omega arith) ∙ ap g (sym e)) (λ q ne. else_same q (λ same. ne (same ∙ sym e))) in
     cc
+
+-- where a list of lists has none at a place, it is empty there
+pub list_at_each : {A B : Type 0} (f : ℕ → List B) (n : ℕ) (xs : List A) (p : ℕ) → (get_or (at_each f n xs) p [] ≡ f (n + p)) ⊎ (get_or (at_each f n xs) p [] ≡ [])
+list_at_each f n [] p = inr refl
+list_at_each f n (x ∷ xs) zero = let e : n ≡ n + 0 = omega arith in inl (ap f e)
+list_at_each f n (x ∷ xs) (suc p) =
+    let e : n + 1 + p ≡ n + suc p = omega arith in
+    elim (list_at_each f (n + 1) xs p) [ inl here ↦ inl (here ∙ ap f e) | inr none ↦ inr none ]
+
+-- a list, to which nothing is left to add
+pub each_done : {A B : Type 0} (f : ℕ → B) (i : ℕ) (xs : List A) (done all : List B) → length xs ≤ i → done ++ at_each f i (drop i xs) ≡ all → done ≡ all
+each_done f i xs done all past is = sym (ap (λ ys. done ++ at_each f i ys) (drop_all i xs past) ∙ append-nil done) ∙ is

@@ -2,7 +2,7 @@
 use Rattle.std.proofs.Common.{◌≡◌, ℕ, Bool, true, false, List, [], ◌∷◌, refl, inl, inr}
 use Rattle.std.specs.Prelude.{◌&&◌, ◌||◌, not, ◌==◌}
 use Rattle.std.proofs.lemmas.Bool.{cases_Bool, both_ways}
-use Rattle.status_rules.specs.Truth.{Visit, has_visit, has_false, has_true}
+use Rattle.status_history.specs.Claims.{Visit, has_visit, has_false, has_true}
 
 neither : (on h a b c : Bool) → ((on && not h) || a) ≡ false → ((on && h) || b) ≡ false → (a ≡ false → b ≡ false → c ≡ false) → (on || c) ≡ false
 neither true true a b c x y rest = y

@@ -1,6 +1,6 @@
-pub mod Buckets
 pub mod Changed
-pub mod Flags
+pub mod Counting
 pub mod Holds
 pub mod Truth
 pub mod Verdicts
+pub mod inner

@@ -2,17 +2,17 @@
 
 ghost use Rattle.std.specs.Prelude.{◌≡◌, ◌<◌, List, [], ◌∷◌, IfOk, map, length};
 ghost use Rattle.std.specs.List.{list_any, list_all};
-ghost use Rattle.status_rules.specs.Buckets.{entries_in};
-ghost use Rattle.status_rules.specs.Flags.{flag};
-ghost use Rattle.status_rules.specs.Holds.{supports, same_status, row_admitted, kind_admitted, is_defined, is_behind, extends, is_live, some_prop};
-ghost use Rattle.status_rules.specs.Verdicts.{at_each};
-ghost use Rattle.c_ir.specs.Table.{dead_of};
-ghost use Rattle.fc_base.specs.Params.{value_at};
+ghost use Rattle.status_rules.specs.inner.ByProp.{entries_in, placed};
+ghost use Rattle.status_rules.specs.inner.Flags.{flag};
+ghost use Rattle.status_rules.specs.Holds.{supports, same_status, dead_passes, extends, some_prop, at_each};
+ghost use Rattle.c_ir.specs.Table.{dead_of, row_admitted};
+ghost use Rattle.param_book.specs.Table.{entry_function, run_values};
 
-use crate::buckets::Buckets;
-use c_ir::{Kind, Prop, PropTable};
-use fc_base::{FnId, LocalStatus, ParamValues, PropId};
-use status_history::Entry;
+use crate::by_prop::EntriesByProp;
+use crate::counting::CountedEntry;
+use c_ir::PropTable;
+use fc_base::{LocalStatus, ParamValues, PropId};
+use param_book::ENTRY_FUNCTION;
 use std::alloc::{AllocError, Global};
 
 /// The flag of a property; false, where there is none.
@@ -25,70 +25,43 @@ pub(crate) fn flag(flags: &[bool], prop: PropId) -> bool
     }
 }
 
-/// Which properties are admitted under these values.
+/// Which properties are admitted, for these values of the parameters.
 pub(crate) fn admitted(
     alloc: Global,
     props: &PropTable,
     values: &ParamValues,
 ) -> Result<Vec<bool>, AllocError>
-    ensures { IfOk result (λ flags. flags.items ≡ map (row_admitted props.now (value_at values.now.values 0)) props.now.rows) }
+    ensures { IfOk result (λ flags. flags.items ≡ map (row_admitted props.now (entry_function (run_values values.now))) props.now.rows) }
 {
     let mut flags = Vec::new(alloc);
     for row in props.rows() {
-        flags.push(is_admitted(props, values, row))?;
+        flags.push(props.admits(row, values.get(ENTRY_FUNCTION)))?;
     }
     Ok(flags)
-}
-
-/// Whether a property of the table is admitted.
-fn is_admitted(props: &PropTable, values: &ParamValues, row: &Prop) -> bool
-    ensures { result ≡ row_admitted props.now (value_at values.now.values 0) row.now }
-{
-    match row.kind {
-        Kind::Admit => true,
-        Kind::Ensures => !is_defined(props, row.function),
-        Kind::Requires => i64::from(row.function.0) == values.get(0),
-        Kind::CallRequires
-        | Kind::Assert
-        | Kind::Check
-        | Kind::LoopInvariant
-        | Kind::Alarm(_)
-        | Kind::Dead => false,
-    }
-}
-
-/// Whether a function is defined.
-fn is_defined(props: &PropTable, function: FnId) -> bool
-    ensures { result ≡ is_defined props.now function.0 }
-{
-    match props.defined().get(function.0 as usize) {
-        Some(defined) => *defined,
-        None => false,
-    }
 }
 
 /// Which properties have an entry with this status, all of whose hypotheses are known.
 pub(crate) fn claimed(
     alloc: Global,
-    buckets: &Buckets,
+    lists: &EntriesByProp,
     status: LocalStatus,
     known: &[bool],
 ) -> Result<Vec<bool>, AllocError>
-    ensures { IfOk result (λ flags. flags.items ≡ map (list_any (supports status (flag known.now))) (entries_in buckets.now)) }
+    ensures { IfOk result (λ flags. flags.items ≡ map (list_any (supports status (flag known.now))) (entries_in lists.now)) }
 {
     let mut flags = Vec::new(alloc);
-    for bucket in buckets {
-        flags.push(has_support(bucket, status, known))?;
+    for list in lists {
+        flags.push(has_support(list, status, known))?;
     }
     Ok(flags)
 }
 
 /// Whether one of these entries has this status, and all its hypotheses are known.
-fn has_support(entries: &[&Entry], status: LocalStatus, known: &[bool]) -> bool
-    ensures { result ≡ list_any (supports status (flag known.now)) (map (λ e. e.now) entries.now) }
+fn has_support(entries: &[CountedEntry], status: LocalStatus, known: &[bool]) -> bool
+    ensures { result ≡ list_any (supports status (flag known.now)) (map placed entries.now) }
 {
-    for entry in entries {
-        if supports(entry, status, known) {
+    for found in entries {
+        if supports(*found, status, known) {
             return true;
         }
     }
@@ -96,10 +69,10 @@ fn has_support(entries: &[&Entry], status: LocalStatus, known: &[bool]) -> bool
 }
 
 /// Whether an entry has this status, and all its hypotheses are known.
-fn supports(entry: &Entry, status: LocalStatus, known: &[bool]) -> bool
-    ensures { result ≡ supports status (flag known.now) entry.now }
+fn supports(found: CountedEntry, status: LocalStatus, known: &[bool]) -> bool
+    ensures { result ≡ supports status (flag known.now) (placed found.entry) }
 {
-    same_status(entry.status, status) && all_known(entry.hyps.as_slice(), known)
+    found.entry.status == status && all_known(found.entry.hyps.as_slice(), known)
 }
 
 /// Whether all these properties are known.
@@ -114,23 +87,7 @@ fn all_known(hyps: &[PropId], known: &[bool]) -> bool
     true
 }
 
-/// Whether two statuses are the same.
-pub(crate) fn same_status(a: LocalStatus, b: LocalStatus) -> bool
-    ensures { result ≡ same_status a b }
-{
-    matches!(
-        (a, b),
-        (LocalStatus::True, LocalStatus::True)
-            | (LocalStatus::DontKnow, LocalStatus::DontKnow)
-            | (LocalStatus::FalseIfReachable, LocalStatus::FalseIfReachable)
-            | (
-                LocalStatus::FalseAndReachable,
-                LocalStatus::FalseAndReachable
-            )
-    )
-}
-
-/// Which properties are known or claimed, or behind one that is claimed.
+/// Which properties are known or claimed, or have a point whose property of kind Dead is claimed.
 #[tactic(auto, using(crate::proofs::Each::at_each_more))]
 pub(crate) fn extended(
     alloc: Global,
@@ -148,32 +105,24 @@ pub(crate) fn extended(
     Ok(flags)
 }
 
-/// Whether a property is known or claimed, or behind one that is claimed.
+/// Whether a property is known or claimed, or has a point whose property of kind Dead is claimed.
 fn extends(props: &PropTable, known: &[bool], claimed: &[bool], prop: PropId) -> bool
     requires { prop.0 < length props.now.rows }
     ensures { result ≡ extends props.now (flag known.now) (flag claimed.now) prop.0 }
 {
-    flag(known, prop) || flag(claimed, prop) || is_behind(props, claimed, prop)
+    flag(known, prop) || flag(claimed, prop) || dead_passes(props, claimed, prop)
 }
 
 /// Whether a property isn't of kind Dead, and the one of kind Dead at its point has its flag set.
-pub(crate) fn is_behind(props: &PropTable, flags: &[bool], prop: PropId) -> bool
+fn dead_passes(props: &PropTable, flags: &[bool], prop: PropId) -> bool
     requires { prop.0 < length props.now.rows }
-    ensures { result ≡ is_behind props.now (flag flags.now) prop.0 }
+    ensures { result ≡ dead_passes props.now (flag flags.now) prop.0 }
 {
-    is_live(props, prop) && dead_passes(props, flags, prop)
-}
-
-/// Whether a property isn't of kind Dead.
-pub(crate) fn is_live(props: &PropTable, prop: PropId) -> bool
-    requires { prop.0 < length props.now.rows }
-    ensures { result ≡ is_live props.now prop.0 }
-{
-    !matches!(props.rows()[prop.0 as usize].kind, Kind::Dead)
+    props.is_live(prop) && has_dead_flag(props, flags, prop)
 }
 
 /// Whether the property of kind Dead at the point of another has its flag set.
-pub(crate) fn dead_passes(props: &PropTable, flags: &[bool], prop: PropId) -> bool
+pub(crate) fn has_dead_flag(props: &PropTable, flags: &[bool], prop: PropId) -> bool
     requires { prop.0 < length props.now.rows }
     ensures { result ≡ some_prop (flag flags.now) (dead_of props.now.rows prop.0) }
 {

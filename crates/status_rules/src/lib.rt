@@ -1,14 +1,16 @@
-//! What all entries of a history come to: which properties hold, and the verdict of each.
+//! What all entries of a history come to: which of them count, which properties hold, and the verdict of each.
 #![tactic(auto)]
 
-mod buckets;
+mod by_prop;
+mod consolidation;
+mod counting;
 mod flags;
-mod marks;
-mod rules;
+mod inputs;
+mod laws;
 #[cfg(test)]
 mod tests;
-mod truth;
 
-pub use marks::Marks;
-pub use rules::{Verdicts, full};
-pub use truth::{changed_is_last, verdicts_are_true};
+pub use consolidation::{Verdicts, full};
+pub use counting::{CountedEntry, current};
+pub use inputs::VerdictInputs;
+pub use laws::{both_sorts_are_all, changed_is_last, counted_are_right, verdicts_are_true};

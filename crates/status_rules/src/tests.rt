@@ -4,13 +4,13 @@ mod slow;
 
 ghost use Rattle.std.specs.Prelude.{◌<◌};
 
-use crate::marks::Marks;
-use crate::{changed_is_last, full, verdicts_are_true};
-use c_ir::{Kind, Prop, PropTable};
-use fc_base::{
-    Bounded, EmitterId, FnId, Line, LocalStatus, ParamSet, ParamValues, PointId, PropId, VERDICTS,
-    Verdict,
+use crate::{
+    CountedEntry, VerdictInputs, both_sorts_are_all, changed_is_last, counted_are_right, current,
+    full, verdicts_are_true,
 };
+use c_ir::{Kind, Prop, PropTable};
+use fc_base::{Bounded, EmitterId, FnId, Line, LocalStatus, ParamSet, PointId, PropId, Verdict};
+use param_book::opening;
 use sqlite_items::Items;
 use status_history::{Change, Entry, History};
 use std::alloc::{AllocError, Global};
@@ -77,7 +77,7 @@ fn history(alloc: Global, entries: &[Option<Said>]) -> Result<History, AllocErro
             changes.push(change)?;
         }
     }
-    let opening = ParamValues::opening(0, false);
+    let opening = opening(0, false);
     Ok(History { opening, changes })
 }
 
@@ -203,12 +203,116 @@ fn settles_small_histories(rt: HostRuntime) -> Result<(), AllocError> {
     }
     verdicts_are_true();
     changed_is_last();
+    counted_are_right();
+    both_sorts_are_all();
+    Ok(())
+}
+
+/// A table of an admit, an ensures and a requires of each of functions 0, which is defined, and 1, which isn't.
+fn admitted_table(alloc: Global) -> Result<PropTable, AllocError> {
+    let mut rows = Items::new(alloc);
+    rows.push(row(alloc, 0, Kind::Admit, 0, 3)?)?;
+    rows.push(row(alloc, 1, Kind::Ensures, 0, 4)?)?;
+    rows.push(row(alloc, 2, Kind::Ensures, 1, 6)?)?;
+    rows.push(row(alloc, 3, Kind::Requires, 0, 0)?)?;
+    rows.push(row(alloc, 4, Kind::Requires, 1, 5)?)?;
+    rows.push(row(alloc, 5, Kind::CallRequires, 0, 2)?)?;
+    PropTable::new(alloc, rows, Items::from_slice(alloc, &[true, false])?)
+}
+
+#[test]
+fn admits_by_kind_and_function(rt: HostRuntime) -> Result<(), AllocError> {
+    let alloc = rt.alloc();
+    let props = admitted_table(alloc)?;
+    // For each entry function: which properties are considered valid; nothing is said of the others.
+    for (entry, admitted) in [
+        (0, [true, false, true, true, false, false]),
+        (1, [true, false, true, false, true, false]),
+    ] {
+        let history = History {
+            opening: opening(entry, false),
+            changes: Items::new(alloc),
+        };
+        let verdicts = full(alloc, &history, &props)?;
+        for (verdict, is_admitted) in verdicts.as_slice().iter().zip(admitted.iter()) {
+            let want = if *is_admitted {
+                Verdict::ConsideredValid
+            } else {
+                Verdict::NeverTried
+            };
+            assert_eq!(rt; *verdict, want, "entry {entry}");
+        }
+    }
+    Ok(())
+}
+
+/// A history in which one emitter says True of property 1 and a parameter then changes. Emitter 4 rests on x0
+/// besides the run parameters, and emitter 5 on all.
+fn changed_after(alloc: Global, emitter: u32, number: u8) -> Result<History, AllocError> {
+    let mut changes = Items::new(alloc);
+    for bits in [256, 65311] {
+        let name = Bounded::new(alloc, "")?;
+        let correctness = ParamSet(bits);
+        changes.push(Change::Register { name, correctness })?;
+    }
+    changes.push(emit(alloc, (emitter, 1, LocalStatus::True, None))?)?;
+    changes.push(Change::Param { number, value: 5 })?;
+    let opening = opening(0, false);
+    Ok(History { opening, changes })
+}
+
+/// Whether each of these entries has place 3.
+fn all_at_three(entries: &[CountedEntry]) -> bool {
+    for found in entries {
+        if found.place != 3 {
+            return false;
+        }
+    }
+    true
+}
+
+#[test]
+fn parameters_withdraw_entries(rt: HostRuntime) -> Result<(), AllocError> {
+    let alloc = rt.alloc();
+    let props = admitted_table(alloc)?;
+    // For each parameter: whether entries of kernel, rte, eva, replay, emitter 4 and emitter 5 go on counting.
+    let other = [true, true, true, true, true, false];
+    let cases = [
+        (0, [false; 6]),
+        (1, [false; 6]),
+        (2, [false; 6]),
+        (3, [true, true, false, true, true, false]),
+        (4, [true, true, false, true, true, false]),
+        (8, [true, true, true, true, false, false]),
+        (9, other),
+        (10, other),
+        (11, other),
+        (12, other),
+        (13, other),
+        (14, other),
+        (15, other),
+    ];
+    for (number, counts) in cases {
+        for (emitter, is_counted) in counts.iter().enumerate() {
+            let history = changed_after(alloc, emitter as u32, number)?;
+            let verdicts = full(alloc, &history, &props)?;
+            let want = if *is_counted {
+                Verdict::Valid
+            } else {
+                Verdict::NeverTried
+            };
+            assert_eq!(rt; verdicts.get(1).copied(), Some(want), "{emitter} {number}");
+            let found = current(alloc, &history)?;
+            assert!(rt; found.is_empty() != *is_counted);
+            assert!(rt; all_at_three(&found));
+        }
+    }
     Ok(())
 }
 
 #[test]
 fn takes_the_first_case(rt: HostRuntime) {
-    let none = Marks {
+    let none = VerdictInputs {
         admitted: false,
         held: false,
         refuted: false,
@@ -219,7 +323,7 @@ fn takes_the_first_case(rt: HostRuntime) {
         said_true: false,
         said_false: false,
     };
-    let all = Marks {
+    let all = VerdictInputs {
         admitted: true,
         held: true,
         refuted: true,
@@ -232,34 +336,34 @@ fn takes_the_first_case(rt: HostRuntime) {
     };
     assert_eq!(rt; none.verdict(), Verdict::NeverTried);
     assert_eq!(rt; all.verdict(), Verdict::Inconsistent);
-    let settled = Marks { held: false, ..all };
+    let settled = VerdictInputs { held: false, ..all };
     assert_eq!(rt; settled.verdict(), Verdict::ConsideredValid);
-    let refuted = Marks {
+    let refuted = VerdictInputs {
         admitted: false,
         ..settled
     };
     assert_eq!(rt; refuted.verdict(), Verdict::Invalid);
-    let dead = Marks {
+    let dead = VerdictInputs {
         refuted: false,
         ..refuted
     };
     assert_eq!(rt; dead.verdict(), Verdict::ValidButDead);
-    let wrong = Marks {
+    let wrong = VerdictInputs {
         proven: false,
         ..dead
     };
     assert_eq!(rt; wrong.verdict(), Verdict::InvalidButDead);
-    let unmet = Marks {
+    let unmet = VerdictInputs {
         disproven: false,
         ..wrong
     };
     assert_eq!(rt; unmet.verdict(), Verdict::UnknownButDead);
-    let proven = Marks {
+    let proven = VerdictInputs {
         unvisited: false,
         ..dead
     };
     assert_eq!(rt; proven.verdict(), Verdict::Valid);
-    let torn = Marks {
+    let torn = VerdictInputs {
         unvisited: false,
         ..unmet
     };
@@ -332,7 +436,7 @@ fn equals_a_second_computation(rt: HostRuntime) -> Result<(), AllocError> {
             let change = dice.change(alloc)?;
             changes.push(change)?;
         }
-        let opening = ParamValues::opening(0, false);
+        let opening = opening(0, false);
         let history = History { opening, changes };
         let verdicts = full(alloc, &history, &props)?;
         for place in 0..props.len() {
@@ -343,7 +447,7 @@ fn equals_a_second_computation(rt: HostRuntime) -> Result<(), AllocError> {
                 Some(expected),
                 "of property {place} in history {number}"
             );
-            for (flag, verdict) in met.iter_mut().zip(VERDICTS.iter()) {
+            for (flag, verdict) in met.iter_mut().zip(Verdict::all().iter()) {
                 *flag = *flag || *verdict == expected;
             }
         }

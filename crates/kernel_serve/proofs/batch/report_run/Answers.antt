@@ -1,8 +1,27 @@
-use Rattle.std.proofs.Common.{map, string_bytes}
-use Rattle.kernel_serve.proofs.Reported.{true_output}
+use Rattle.std.proofs.Common.{map, string_bytes, ap, Err}
+use Rattle.kernel_serve.specs.inner.Steps.{command_of}
+use Rattle.kernel_serve.proofs.Ended.{done_says, no_usage, no_write_fault, stop_complete, stop_outcome, stop_says}
 use Rattle.kernel_serve.proofs.batch.report_run.Goals as goal
+
+pub returns-in-Err-clause-truth : goal.returns-in-Err-clause-truth
+returns-in-Err-clause-truth g c = stop_says _ c.in-Err.status _ _ c.in-Err.ensures.ends
+
+pub returns-in-Err-clause-outcome : goal.returns-in-Err-clause-outcome
+returns-in-Err-clause-outcome g c =
+    stop_outcome (map string_bytes c.args.words.now) (command_of c.in-Some.command) c.in-Err.status _ _ c.in-Some.ensures c.in-Err.ensures.ends c.in-Err.ensures.stops
+
+pub returns-in-Err-clause-complete : goal.returns-in-Err-clause-complete
+returns-in-Err-clause-complete g c = λ reads writes.
+    stop_complete c.one_tree.ensures (map string_bytes c.args.words.now) (command_of c.in-Some.command) c.in-Err.status _ _ c.in-Some.ensures c.in-Err.ensures.ends (λ is. reads (c.in-Err.ensures.read (ap Err is))) c.in-Err.ensures.stops
+
+pub returns-in-Err-clause-usage : goal.returns-in-Err-clause-usage
+returns-in-Err-clause-usage g c =
+    no_usage (map string_bytes c.args.words.now) (command_of c.in-Some.command) c.in-Err.status c.in-Some.ensures c.in-Err.ensures.ends
+
+pub returns-in-Err-clause-write : goal.returns-in-Err-clause-write
+returns-in-Err-clause-write g c = no_write_fault c.in-Err.status c.in-Err.ensures.ends
 
 pub returns-in-Ok-write_all-clause-truth : goal.returns-in-Ok-write_all-clause-truth
 returns-in-Ok-write_all-clause-truth g c =
     let written = rw c.as_slice.ensures.value at c.in-Ok-write_all.ensures.ok in
-    true_output c.program_verdicts_are_true.ensures (map string_bytes c.args.words.now) (c.in-Some.file.now, c.in-Some.events.now) _ _ _ c.in-Ok.text.items c.in-Some.ensures c.in-Ok.ensures.text written
+    done_says c.program_verdicts_are_true.ensures (map string_bytes c.args.words.now) (command_of c.in-Some.command) _ _ _ c.in-Ok.text.items c.in-Some.ensures c.in-Ok.ensures.text written

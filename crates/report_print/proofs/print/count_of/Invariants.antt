@@ -1,6 +1,6 @@
 use Rattle.std.proofs.Common.{◌≡◌, ◌+◌, ◌≤◌, drop}
 use Rattle.report_print.specs.Report.{count_of}
-use Rattle.report_print.specs.Rows.{rows_view}
+use Rattle.report_print.specs.inner.Rows.{rows_view}
 use Rattle.report_print.proofs.print.count_of.Given as goal
 
 abbrev pub invariant-loop-row : goal.invariant-loop-row

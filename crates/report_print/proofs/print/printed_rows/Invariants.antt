@@ -1,6 +1,6 @@
 use Rattle.std.proofs.Common.{◌≡◌, ◌++◌, drop}
 use Rattle.report_print.specs.Report.{printed}
-use Rattle.report_print.specs.Rows.{rows_view}
+use Rattle.report_print.specs.inner.Rows.{rows_view}
 use Rattle.report_print.proofs.print.printed_rows.Given as goal
 
 abbrev pub invariant-loop-index : goal.invariant-loop-index

@@ -1,6 +1,6 @@
 use Rattle.std.proofs.Common.{◌≡◌, ◌++◌, drop}
 use Rattle.report_print.specs.Report.{counts_text}
-use Rattle.report_print.specs.Rows.{rows_view}
+use Rattle.report_print.specs.inner.Rows.{rows_view}
 use Rattle.report_print.proofs.print.push_counts.Given as goal
 
 abbrev pub invariant-loop-verdict : goal.invariant-loop-verdict

@@ -1,5 +1,5 @@
 use Rattle.std.proofs.Common.{◌<◌, ◌++◌, ◌∷◌, [], length, ap, ◌∙◌, arith}
-use Rattle.status_rules.specs.Flags.{flag}
+use Rattle.status_rules.specs.inner.Flags.{flag}
 use Rattle.status_rules.specs.Holds.{extends}
 use Rattle.status_rules.proofs.Each.{each_more}
 use Rattle.status_rules.proofs.flags.extended.Goals as goal

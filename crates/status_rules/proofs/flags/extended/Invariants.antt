@@ -1,7 +1,6 @@
 use Rattle.std.proofs.Common.{◌≡◌, ◌++◌, drop}
-use Rattle.status_rules.specs.Flags.{flag}
-use Rattle.status_rules.specs.Holds.{extends}
-use Rattle.status_rules.specs.Verdicts.{at_each}
+use Rattle.status_rules.specs.inner.Flags.{flag}
+use Rattle.status_rules.specs.Holds.{at_each, extends}
 use Rattle.status_rules.proofs.flags.extended.Given as goal
 
 abbrev pub invariant-loop-place : goal.invariant-loop-place

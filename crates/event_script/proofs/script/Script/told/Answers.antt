@@ -1,15 +1,11 @@
-use Rattle.std.proofs.Common.{◌≡◌, ap, sym, ◌∙◌}
-use Rattle.std.proofs.lemmas.Map.Text.{hash_map_updates_text}
-use Rattle.std.specs.Prelude.{Some, string_bytes}
-use Rattle.indexmap.specs.IndexMap.{get_by_text}
-use Rattle.event_script.specs.Names.{number_told}
-use Rattle.event_script.proofs.Told.{number_of_texts}
+use Rattle.std.proofs.Common.{◌≡◌, List, ℕ, map, string_bytes, ap, sym, ◌∙◌}
+use Rattle.event_script.specs.Names.{with_told}
+use Rattle.event_script.proofs.Told.{with_told_texts}
 use Rattle.event_script.proofs.script.Script.told.Goals as goal
 
 pub returns-clause-ok : goal.returns-clause-ok
-returns-clause-ok c = λ asked.
-    let told : number_told c.args.self.now asked ≡ get_by_text c.self.inside.told asked =
-    ap (λ ts. number_told ts asked) (sym c.self.view_is) ∙ number_of_texts asked c.self.inside.told.entries in
-    let now = number_of_texts asked c.insert.new.self.entries in
-    let updated = hash_map_updates_text (string_bytes c.in_ok-from_str.field-0) c.self.inside.told c.insert.new.self (Some c.args.id) c.in_ok-insert.ensures.updates asked in
-    cc (told, now, updated, c.in_ok-from_str.ensures.ok)
+returns-clause-ok c =
+    let noted = with_told_texts c.in_ok-from_str.field-0 c.args.id c.self.inside.told.entries in
+    ap (map (λ p. (string_bytes p.0, p.1))) c.in_ok-insert.ensures.entries
+    ∙ (noted ∙ (ap (λ name. with_told name c.args.id (map (λ p. (string_bytes p.0, p.1)) c.self.inside.told.entries)) c.in_ok-from_str.ensures.ok
+    ∙ ap (with_told c.args.name.now c.args.id) c.self.view_is))

@@ -1,5 +1,5 @@
 use Rattle.std.proofs.Common.{◌≡◌, drop}
-use Rattle.status_history.specs.Parameters.{changed_by, params_set}
+use Rattle.status_history.specs.Values.{changed_by, params_set}
 use Rattle.status_history.proofs.history.History.values.Given as goal
 
 abbrev pub invariant-loop-change : goal.invariant-loop-change

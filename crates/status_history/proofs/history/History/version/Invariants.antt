@@ -1,5 +1,5 @@
 use Rattle.std.proofs.Common.{◌≡◌, ◌≤◌, ◌+◌, drop, length}
-use Rattle.status_history.specs.Parameters.{params_set}
+use Rattle.status_history.specs.Values.{params_set}
 use Rattle.status_history.proofs.history.History.version.Given as goal
 
 abbrev pub invariant-loop-change : goal.invariant-loop-change

@@ -1,0 +1,2 @@
+-- What the steps of a call find: no public contract cites it.
+pub mod Steps
