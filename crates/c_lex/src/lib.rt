@@ -1,0 +1,8 @@
+//! The tokens of a text of C with annotations (C11 6.4; ACSL manual, lexical rules).
+#![tactic(auto)]
+
+mod fault;
+mod token;
+
+pub use fault::LexFault;
+pub use token::{Keyword, Number, Punct, Token, TokenKind, Tokens, Word};
