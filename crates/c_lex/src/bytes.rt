@@ -103,7 +103,7 @@ pub(crate) fn is_word_first(bytes: &[u8]) -> bool
 }
 
 fn is_hexadecimal_first(bytes: &[u8]) -> bool
-    ensures { result ≡ begins_with is_hexadecimal_digit bytes.now }
+    ensures value { result ≡ begins_with is_hexadecimal_digit bytes.now }
 {
     match bytes.split_first() {
         Some((first, _)) => is_hexadecimal_digit(*first),
@@ -113,7 +113,8 @@ fn is_hexadecimal_first(bytes: &[u8]) -> bool
 
 /// Whether a hexadecimal constant stands first.
 pub(crate) fn is_hexadecimal(bytes: &[u8]) -> bool
-    ensures { result ≡ is_hexadecimal bytes.now }
+    ensures value { result ≡ is_hexadecimal bytes.now }
+    ensures within { result ≡ true → 2 ≤ length bytes.now }
 {
     let Some((zero, more)) = bytes.split_first() else {
         return false;

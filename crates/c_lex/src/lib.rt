@@ -3,9 +3,15 @@
 
 mod bytes;
 mod fault;
+mod lex;
+mod number;
 mod piece;
+mod rows;
 mod tables;
+#[cfg(test)]
+mod tests;
 mod token;
 
 pub use fault::LexFault;
+pub use lex::tokens;
 pub use token::{Keyword, Number, Punct, Token, TokenKind, Tokens, Word};

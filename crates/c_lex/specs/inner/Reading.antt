@@ -11,9 +11,15 @@ use Rattle.c_lex.specs.declared.piece.Shape.{Shape}
 use Rattle.c_lex.specs.declared.token.Number.{Number}
 use Rattle.c_lex.specs.declared.token.Keyword.{Keyword}
 use Rattle.c_lex.specs.declared.token.TokenKind.TheVariants as K
-use Rattle.c_lex.specs.Bytes.{begins_with, begins, is_blank, is_in_line}
-use Rattle.c_lex.specs.Spellings.{Row, puncts, suffixes, begins_word, goes_on, word_of, form_of, prefix_of, is_digit, value_of, spoils, escape, is_plain}
-use Rattle.c_lex.specs.Tokens.{is_marker}
+use Rattle.c_lex.specs.declared.fault.LexFault.{LexFault}
+use Rattle.c_lex.specs.declared.fault.LexFault.TheVariants as F
+use Rattle.c_lex.specs.declared.lex.Place.{Place}
+use Rattle.c_lex.specs.declared.lex.Step.{Step}
+use Rattle.c_lex.specs.declared.lex.Step.TheVariants as S
+use Rattle.c_lex.specs.declared.token.Token.{Token}
+use Rattle.c_lex.specs.Bytes.{begins_with, begins, is_blank, is_in_line, line_ends}
+use Rattle.c_lex.specs.Spellings.{Row, puncts, suffixes, begins_word, goes_on, word_of, form_of, prefix_of, is_digit, with_digit, spoils, escape, is_plain}
+use Rattle.c_lex.specs.Tokens.{Spot, is_marker, token_at, past, in_note, past_note, close_len}
 
 infixl 10 ◌>>=◌
 -- what is read first, and then the rest
@@ -31,11 +37,23 @@ abbrev pub rows_of : {A : Type 0} → List (Bor (List ℕ) × A × Bool) → Lis
 rows_of [] = []
 rows_of (r ∷ rows) = (r.0.now, r.1, r.2) ∷ rows_of rows
 
+abbrev pub words_of : List (Bor (List ℕ) × Keyword) → List (List ℕ × Keyword)
+words_of [] = []
+words_of (r ∷ rows) = (r.0.now, r.1) ∷ words_of rows
+
 -- the first row that the bytes begin with, and its length
 abbrev pub first_row : {A : Type 0} → Bool → List (Row A) → List ℕ → Option (A × ℕ)
 first_row note [] bytes = None
 first_row note (r ∷ rows) bytes =
     if (note || not r.2) && begins r.0 bytes then Some (r.1, length r.0) else first_row note rows bytes
+
+-- the piece isn't longer than this many bytes; a note has its opening before what is in it
+abbrev pub IsWithin : ℕ → Piece → Type 0
+IsWithin n (Q.Gap k) = k ≤ n
+IsWithin n (Q.Token kind k) = k ≤ n
+IsWithin n (Q.Note k) = k + 3 ≤ n
+IsWithin n (Q.Bad k) = k ≤ n
+IsWithin n piece = Unit {0}
 
 unfoldable pub punct_at : Bool → List ℕ → Piece
 punct_at note bytes = either (first_row note puncts bytes) (λ r. Q.Token (K.Punct r.0) r.1) (Q.Bad 0)
@@ -45,7 +63,7 @@ unfoldable pub word_at : ℕ → List ℕ → Piece
 word_at b more =
     if b == 92 && prefix_len (goes_on b) more == 0 then Q.Bad 0 else (
     if nat_le 256 (prefix_len (goes_on b) more) then Q.Long else
-    Q.Token (K.Word (word_of (b ∷ take (prefix_len (goes_on b) more) more))) (prefix_len (goes_on b) more + 1))
+    Q.Token (K.Word (word_of (take (prefix_len (goes_on b) more + 1) (b ∷ more)))) (prefix_len (goes_on b) more + 1))
 
 -- how many digits stand first
 unfoldable pub digits_len : LiteralForm → List ℕ → ℕ
@@ -58,9 +76,14 @@ shape_of bytes = do
   row ← first_row false suffixes (drop (prefix_of form + digits) bytes)
   Some (record { form = form; digits = digits; unsigned = row.0.0; longs = row.0.1; len = prefix_of form + digits + row.1 })
 
--- the value, if it is below 2 ^ 127
-unfoldable pub fitting : LiteralForm → List ℕ → Option ℕ
-fitting form digits = if nat_lt (value_of form 0 digits) (2 ^ 127) then Some (value_of form 0 digits) else None
+-- the number with one more digit, if it is below 2 ^ 127
+abbrev pub fitting_digit : LiteralForm → ℕ → ℕ → Option ℕ
+fitting_digit form n b = if nat_lt (with_digit form n b) (2 ^ 127) then Some (with_digit form n b) else None
+
+-- the value of digits that stand after those of n, if it is below 2 ^ 127
+abbrev pub fitting : LiteralForm → ℕ → List ℕ → Option ℕ
+fitting form n [] = Some n
+fitting form n (b ∷ bs) = either (fitting_digit form n b) (λ m. fitting form m bs) None
 
 abbrev pub number_with : Shape → ℕ → Number
 number_with shape value = record { value = value; form = shape.form; unsigned = shape.unsigned; longs = shape.longs }
@@ -68,7 +91,7 @@ number_with shape value = record { value = value; form = shape.form; unsigned = 
 unfoldable pub number_of : Bool → List ℕ → Shape → Piece
 number_of note bytes shape =
     if spoils note (drop shape.len bytes) then Q.Bad shape.len else
-    either (fitting shape.form (take shape.digits (drop (prefix_of shape.form) bytes)))
+    either (fitting shape.form 0 (take shape.digits (drop (prefix_of shape.form) bytes)))
         (λ value. Q.Token (K.Number (number_with shape value)) shape.len) Q.Wide
 
 unfoldable pub number_at : Bool → List ℕ → Piece
@@ -145,3 +168,56 @@ unfoldable pub piece_at : Bool → Bool → ℕ → List ℕ → Piece
 piece_at note fresh b more =
     if is_blank note b then Q.Gap 1 else (if begins_word note b then word_at b more else (
     if is_ascii_digit b then number_at note (b ∷ more) else symbol_at note fresh b more))
+
+-- A place of the code, and the steps from place to place.
+
+abbrev pub spot_of : Place → Spot
+spot_of p =
+    record { at = p.at; line = p.line; fresh = p.is_fresh; note = p.in_note; bytes = p.bytes.now; after = p.after.now }
+
+pub data Move : Type 0 where
+  AtEnd : Move
+  To : Option Token → Spot → Move
+  Fault : LexFault → Move
+
+abbrev pub move_of : Spot → Piece → Move
+move_of s (Q.Gap n) = To None (past s (take n s.bytes) (drop n s.bytes) (s.fresh || nat_lt 0 (line_ends (take n s.bytes))))
+move_of s (Q.Token kind n) = To (Some (token_at s kind n)) (past s (take n s.bytes) (drop n s.bytes) false)
+move_of s (Q.Note n) = To (Some (token_at s K.NoteFrom 3)) (in_note s (take n (drop 3 s.bytes)) (drop n (drop 3 s.bytes)))
+move_of s (Q.Bad n) = Fault (F.BadByte (s.at + n))
+move_of s Q.Open = Fault (F.OpenComment s.at)
+move_of s Q.Wide = Fault (F.LiteralTooWide s.at)
+move_of s Q.Directive = Fault (F.Directive (record { 0 = s.line }))
+move_of s Q.Long = Fault (F.NameTooLong s.at)
+
+-- at the end of a note or of the text
+unfoldable pub end_of : Spot → Move
+end_of s = if s.note then To (Some (token_at s K.NoteTo (close_len s.after))) (past_note s) else AtEnd
+
+abbrev pub next_of : Spot → List ℕ → Move
+next_of s [] = end_of s
+next_of s (b ∷ more) = move_of s (piece_at s.note s.fresh b more)
+
+unfoldable pub step_of : Spot → Move
+step_of s = next_of s s.bytes
+
+abbrev pub seen : Step → Move
+seen S.End = AtEnd
+seen (S.Gap p) = To None (spot_of p)
+seen (S.Token t p) = To (Some t) (spot_of p)
+seen (S.Stuck f) = Fault f
+
+-- offsets and lines fit
+pub record IsRoomy (p : Place) : Type 0 where
+  pub within : p.at + length p.bytes.now + length p.after.now ≤ 4194304
+  pub lines : p.line ≤ p.at + 1
+
+abbrev pub IsPast : Place → ℕ → Bool → Spot → Type 0
+IsPast p n fresh s = s ≡ past (spot_of p) (take n p.bytes.now) (drop n p.bytes.now) fresh
+
+-- the next place is roomy too
+abbrev pub GoesOn : Step → Type 0
+GoesOn S.End = Unit {0}
+GoesOn (S.Gap p) = IsRoomy p
+GoesOn (S.Token t p) = IsRoomy p
+GoesOn (S.Stuck f) = Unit {0}
