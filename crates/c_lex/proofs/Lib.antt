@@ -7,3 +7,5 @@ pub mod Counted
 pub mod Scans
 pub mod Takes
 pub mod PieceAgain
+pub mod Steps
+pub mod OneReading

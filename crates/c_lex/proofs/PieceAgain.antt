@@ -30,15 +30,15 @@ read note fresh (b ∷ more) = piece_at note fresh b more
 
 -- Comments, notes and line markers.
 
-read_block : (fresh : Bool) (rest : List ℕ) → read false fresh (47 ∷ 42 ∷ rest) ≡ block_at rest
+pub read_block : (fresh : Bool) (rest : List ℕ) → read false fresh (47 ∷ 42 ∷ rest) ≡ block_at rest
 unfolding piece_at symbol_at slash_at
 read_block fresh rest = refl
 
-read_line : (fresh : Bool) (rest : List ℕ) → read false fresh (47 ∷ 47 ∷ rest) ≡ line_at rest
+pub read_line : (fresh : Bool) (rest : List ℕ) → read false fresh (47 ∷ 47 ∷ rest) ≡ line_at rest
 unfolding piece_at symbol_at slash_at
 read_line fresh rest = refl
 
-read_marker : (note : Bool) (rest : List ℕ) → read note true (35 ∷ rest) ≡ marker_at note rest
+pub read_marker : (note : Bool) (rest : List ℕ) → read note true (35 ∷ rest) ≡ marker_at note rest
 unfolding piece_at symbol_at
 read_marker true rest = refl
 read_marker false rest = refl

@@ -102,7 +102,7 @@ past_note s =
 
 -- from spot s a piece leads to spot e: nothing that is a token, or a token
 pub data Goes (s : Spot) (piece : Option Token) (e : Spot) : Type 0 where
-  Gap : (text rest : List ℕ) → s.bytes ≡ text ++ rest → IsGap s.note s.fresh text rest
+  OfGap : (text rest : List ℕ) → s.bytes ≡ text ++ rest → IsGap s.note s.fresh text rest
       → piece ≡ None → e ≡ past s text rest (s.fresh || nat_lt 0 (line_ends text)) → Goes s piece e
   Whole : (kind : TokenKind) (text rest : List ℕ) → s.bytes ≡ text ++ rest → Spells s.note s.fresh kind text rest
       → piece ≡ Some (token_at s kind (length text)) → e ≡ past s text rest false → Goes s piece e
@@ -166,7 +166,15 @@ pub data Stops (s : Spot) (f : LexFault) : Type 0 where
 abbrev pub Stuck : List ℕ → LexFault → Type 0
 Stuck bytes f = (ps : List (Option Token)) × (e : Spot) × Reaches (start bytes) ps e × Stops e f
 
--- a refusal is the text's; want of memory says nothing
-abbrev pub IsFaultOf : List ℕ → LexFault → Type 0
-IsFaultOf bytes F.Memory = Unit {0}
-IsFaultOf bytes f = Stuck bytes f
+-- these are the tokens: the text has no others, and no fault
+abbrev pub AreOnly : List ℕ → List Token → Type 0
+AreOnly bytes ts = ((us : List Token) → Lexes bytes us → us ≡ ts) × ((f : LexFault) → Stuck bytes f → ⊥)
+
+-- this is the fault: the text has no other, and no tokens
+abbrev pub IsOnlyFault : List ℕ → LexFault → Type 0
+IsOnlyFault bytes f = ((g : LexFault) → Stuck bytes g → g ≡ f) × ((ts : List Token) → Lexes bytes ts → ⊥)
+
+-- what is said of a fault; want of memory says nothing
+abbrev pub UnlessMemory : (LexFault → Type 0) → LexFault → Type 0
+UnlessMemory P F.Memory = Unit {0}
+UnlessMemory P f = P f

@@ -2,7 +2,7 @@
 
 ghost use Rattle.std.specs.Prelude.{◌≡◌, ◌+◌, ◌≤◌, ◌<◌, ◌||◌, true, take, drop, nat_lt, length, IfOk, IfErr};
 ghost use Rattle.c_lex.specs.Bytes.{line_ends};
-ghost use Rattle.c_lex.specs.Tokens.{Lexes, IsFaultOf, past_note, in_note, token_at, close_len};
+ghost use Rattle.c_lex.specs.Tokens.{Lexes, AreOnly, Stuck, IsOnlyFault, UnlessMemory, past_note, in_note, token_at, close_len};
 ghost use Rattle.c_lex.specs.inner.Reading.{spot_of, seen, end_of, move_of, step_of, IsRoomy, GoesOn, IsPast, IsWithin};
 
 use crate::bytes::{begins, line_ends};
@@ -185,7 +185,9 @@ fn step_of<'a>(place: Place<'a>) -> Step<'a>
 pub fn tokens(alloc: Global, bytes: &[u8]) -> Result<Tokens, LexFault>
     requires { length bytes.now ≤ 4194304 }
     ensures found { IfOk result (Lexes bytes.now) }
-    ensures fault { IfErr result (IsFaultOf bytes.now) }
+    ensures only { IfOk result (AreOnly bytes.now) }
+    ensures fault { IfErr result (UnlessMemory (Stuck bytes.now)) }
+    ensures only_fault { IfErr result (UnlessMemory (IsOnlyFault bytes.now)) }
 {
     let mut tokens = Items::new(alloc);
     let empty: &[u8] = &[];
