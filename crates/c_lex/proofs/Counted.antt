@@ -1,7 +1,7 @@
 -- What the reading of an integer constant gives, and that it gives it of each.
-use Rattle.std.proofs.Common.{◌≡◌, ◌⊎◌, inl, inr, ◌+◌, ◌<◌, ◌≤◌, ◌^◌, ◌++◌, ◌∷◌, [], ℕ, List, Bool, true, false, Option, Some, None, refl, ap, sym, ◌∙◌, subst, take, drop, length, append_assoc, length-append, arith}
-use Rattle.std.specs.Prelude.{◌==◌, ◌||◌, ◌&&◌, not, nat_le, if◌then◌else◌}
-use Rattle.std.specs.List.{prefix_len, list_all}
+use Rattle.std.proofs.Common.{◌≡◌, ◌+◌, ◌<◌, ◌≤◌, ◌^◌, ◌++◌, ◌∷◌, [], ℕ, List, Bool, true, false, Option, Some, None, refl, ap, sym, ◌∙◌, subst, take, drop, length, append_assoc, length-append, arith}
+use Rattle.std.specs.Prelude.{◌==◌, if◌then◌else◌}
+use Rattle.std.specs.List.{prefix_len}
 use Rattle.std.specs.Char.{is_ascii_digit}
 use Rattle.std.proofs.lemmas.Bool.Decides.{nat_tests}
 use Rattle.std.proofs.Math.Seq.{drop-append_seam, take-append_seam, drop-append-add}
@@ -13,10 +13,10 @@ use Rattle.c_lex.specs.declared.piece.Shape.{Shape}
 use Rattle.c_lex.specs.declared.token.Number.{Number}
 use Rattle.c_lex.specs.declared.token.TokenKind.{TokenKind}
 use Rattle.c_lex.specs.declared.token.TokenKind.TheVariants as K
-use Rattle.c_lex.specs.Bytes.{begins_with, begins}
-use Rattle.c_lex.specs.Spellings.{IsLongest, suffixes, is_hexadecimal, form_of, prefix_of, is_digit, value_of, IsNumber, spoils}
-use Rattle.c_lex.specs.inner.Reading.{◌>>=◌, either, first_row, digits_len, shape_of, fitting, number_with, number_of, number_at}
-use Rattle.c_lex.proofs.Runs.{run_len, if_either}
+use Rattle.c_lex.specs.Bytes.{begins_with}
+use Rattle.c_lex.specs.Spellings.{suffixes, is_hexadecimal, form_of, prefix_of, is_digit, value_of, IsNumber, spoils}
+use Rattle.c_lex.specs.inner.Reading.{either, digits_len, shape_of, fitting, number_with, number_of, number_at}
+use Rattle.c_lex.proofs.Runs.{run_len}
 use Rattle.c_lex.proofs.LongestRow.{first_row-again}
 use Rattle.c_lex.proofs.Values.{Fitting, fitting-takes, fitting-again, wide-again}
 use Rattle.c_lex.proofs.Numbers.{ordered, IsSplit, HasShape, shape_of-takes, shape_of-some}
@@ -77,7 +77,7 @@ record Parts (v : Number) (bytes digits suffix rest : List ℕ) (len : ℕ) : Ty
 parts : (v : Number) (text rest : List ℕ) (h : IsNumber v text rest) → Parts v (text ++ rest) h.digits h.suffix rest (length text)
 parts v text rest h =
     let whole : text ++ rest ≡ h.prefix ++ (h.digits ++ (h.suffix ++ rest)) =
-        ap (λ (x : List ℕ). x ++ rest) h.spelled ∙ append_assoc h.prefix (h.digits ++ h.suffix) rest ∙ ap (λ (x : List ℕ). h.prefix ++ x) (append_assoc h.digits h.suffix rest) in
+    ap (λ (x : List ℕ). x ++ rest) h.spelled ∙ append_assoc h.prefix (h.digits ++ h.suffix) rest ∙ ap (λ (x : List ℕ). h.prefix ++ x) (append_assoc h.digits h.suffix rest) in
     let after : drop (prefix_of v.form) (text ++ rest) ≡ h.digits ++ (h.suffix ++ rest) = rw (← h.prefix_len, whole) (drop-append_seam h.prefix (h.digits ++ (h.suffix ++ rest))) in
     record {
       after = after;
@@ -139,7 +139,7 @@ pub number_some : (v : Number) (text rest : List ℕ) → IsNumber v text rest �
 number_some v (b ∷ bs) rest h = omega arith
 number_some v [] rest h =
     let none : length h.prefix + (length h.digits + length h.suffix) ≡ 0 =
-        omega (arith, ap length h.spelled, length-append h.prefix (h.digits ++ h.suffix), length-append h.digits h.suffix) in
+    omega (arith, ap length h.spelled, length-append h.prefix (h.digits ++ h.suffix), length-append h.digits h.suffix) in
     let suffix : h.suffix ≡ [] = empty h.suffix (omega arith) in
     let prefix : prefix_of (form_of rest) ≡ 0 = ap prefix_of (sym h.form) ∙ sym h.prefix_len ∙ omega arith in
     let d = digit_there rest h.begins_so prefix in

@@ -1,5 +1,5 @@
 -- How much is left to be read falls with each piece.
-use Rattle.std.proofs.Common.{◌≡◌, ◌⊎◌, inl, inr, ℕ, ◌+◌, ◌<◌, ◌≤◌, ◌^◌, ◌++◌, ◌∷◌, [], List, Bool, true, false, Option, refl, ap, sym, ◌∙◌, subst, length, drop, length-append, length-drop, arith}
+use Rattle.std.proofs.Common.{◌≡◌, inl, inr, ℕ, ◌+◌, ◌<◌, ◌≤◌, ◌++◌, ◌∷◌, [], List, Bool, true, false, Option, ap, sym, subst, length, length-append, length-drop, arith}
 use Rattle.std.specs.Prelude.{◌||◌, nat_lt, if◌then◌else◌}
 use Rattle.c_lex.specs.declared.token.Token.{Token}
 use Rattle.c_lex.specs.declared.token.TokenKind.{TokenKind}
@@ -9,7 +9,7 @@ use Rattle.c_lex.specs.Spellings.{IsChar}
 use Rattle.c_lex.specs.Tokens.{Spot, IsGap, Spells, IsNote, Goes, past, in_note, past_note, close_len}
 use Rattle.c_lex.specs.Tokens as T
 use Rattle.c_lex.proofs.Counted.{number_some}
-use Rattle.c_lex.proofs.PieceAgain.{is_symbol, punct_some}
+use Rattle.c_lex.proofs.PieceAgain.{punct_some}
 
 -- bytes, and a note to be closed
 abbrev pub left : Spot → ℕ

@@ -9,3 +9,4 @@ pub mod Takes
 pub mod PieceAgain
 pub mod Steps
 pub mod OneReading
+pub mod TokenFacts

@@ -1,12 +1,12 @@
 -- The first row of a table that stands first is the longest, where no row begins a later one.
-use Rattle.std.proofs.Common.{◌≡◌, ◌⊎◌, inl, inr, ◌+◌, ◌<◌, ◌≤◌, ◌++◌, ◌∷◌, [], ℕ, List, Bool, true, false, Option, Some, None, refl, ap, sym, ◌∙◌, subst, length, ◌&&◌, arith, append-nil}
-use Rattle.std.specs.Prelude.{◌||◌, not, nat_le, if◌then◌else◌}
+use Rattle.std.proofs.Common.{◌≡◌, ◌⊎◌, inl, inr, ◌≤◌, ◌∷◌, [], ℕ, List, Bool, true, false, Option, Some, None, refl, ap, sym, ◌∙◌, subst, length, ◌&&◌, arith, append-nil}
+use Rattle.std.specs.Prelude.{◌||◌, not, nat_le}
 use Rattle.std.specs.List.{list_all}
 use Rattle.std.proofs.lemmas.Bool.Decides.{nat_tests}
 use Rattle.c_lex.specs.Bytes.{begins}
 use Rattle.c_lex.specs.Spellings.{Row, Has, IsLongest}
 use Rattle.c_lex.specs.inner.Reading.{first_row}
-use Rattle.c_lex.proofs.Runs.{both, both_are, not_false, some_one, some_pair, if_either, begins-append, begins-common, begins-same}
+use Rattle.c_lex.proofs.Runs.{both, both_are, not_false, some_pair, if_either, begins-append, begins-common, begins-same}
 
 -- no row begins a later one
 abbrev pub is_ordered : {A : Type 0} → List (Row A) → Bool
@@ -55,14 +55,15 @@ first_row-takes {A} note (r ∷ rows) bytes v n o e =
         let s = both (note || not r.2) (begins r.0 bytes) h.0 in
         let p = some_pair r.1 v (length r.0) n h.1 in
         let longest : (other : List ℕ) (w : A) → Has note (r ∷ rows) other w → begins other bytes ≡ true → length other ≤ length r.0 = λ other w has b.
-            elim has [ inl k ↦ omega (arith, ap length k.1) | inr k ↦ no_longer note rows r.0 other bytes w after k s.1 b ] in
+        elim has [ inl k ↦ omega (arith, ap length k.1) | inr k ↦ no_longer note rows r.0 other bytes w after k s.1 b ] in
         (r.0, record { row = inl (s.0, refl, p.0); first = s.1; longest = longest }, sym p.1)
     step ih (inr h) =
         let i = ih (both (list_all (λ q. not (begins r.0 q.0)) rows) (is_ordered rows) o).1 h.1 in
         let longest : (other : List ℕ) (w : A) → Has note (r ∷ rows) other w → begins other bytes ≡ true → length other ≤ length i.0 = λ other w has b.
-            elim has [
-              inl k ↦ let t = both_are (note || not r.2) (begins r.0 bytes) k.0 (subst (λ (x : List ℕ). begins x bytes ≡ true) (sym k.1) b) in let f = h.0 in absurd (cc)
-            | inr k ↦ i.1.longest other w k b ] in
+        elim has [
+          | inl k ↦ let t = both_are (note || not r.2) (begins r.0 bytes) k.0 (subst (λ (x : List ℕ). begins x bytes ≡ true) (sym k.1) b) in let f = h.0 in absurd (cc)
+          | inr k ↦ i.1.longest other w k b
+        ] in
         (i.0, record { row = inr i.1.row; first = i.1.first; longest = longest }, i.2)
 
 pub first_row-none : {A : Type 0} (note : Bool) (rows : List (Row A)) (bytes t : List ℕ) (v : A) → first_row note rows bytes ≡ None → Has note rows t v → begins t bytes ≡ true → ⊥

@@ -1,25 +1,18 @@
 -- An integer constant is read where the bytes begin with one, and no other is.
-use Rattle.std.proofs.Common.{◌≡◌, ◌⊎◌, inl, inr, ◌+◌, ◌<◌, ◌≤◌, ◌^◌, ◌++◌, ◌∷◌, [], ℕ, List, Bool, true, false, Option, Some, None, refl, ap, sym, ◌∙◌, subst, take, drop, length, append_assoc, length-append, arith}
-use Rattle.std.specs.Prelude.{◌==◌, ◌||◌, ◌&&◌, not, nat_le, if◌then◌else◌}
+use Rattle.std.proofs.Common.{◌≡◌, inl, inr, ◌+◌, ◌≤◌, ◌++◌, ◌∷◌, [], ℕ, List, Bool, true, false, Option, Some, None, refl, ap, sym, ◌∙◌, subst, take, drop, length, append_assoc, length-append, arith}
+use Rattle.std.specs.Prelude.{◌==◌, if◌then◌else◌}
 use Rattle.std.specs.List.{prefix_len}
 use Rattle.std.specs.Char.{is_ascii_digit}
-use Rattle.std.proofs.lemmas.Bool.Decides.{nat_tests}
 use Rattle.std.proofs.lemmas.List.{take-append-drop, drop-drop, length-take-le}
 use Rattle.std.proofs.lemmas.List.Folds.{length-prefix_len}
-use Rattle.std.proofs.Math.Seq.{drop-append_seam, take-append_seam, drop-append-add}
 use Rattle.fc_base.specs.declared.syntax.LiteralForm.{LiteralForm}
 use Rattle.fc_base.specs.declared.syntax.LiteralForm.TheVariants as L
-use Rattle.c_lex.specs.declared.piece.Piece.{Piece}
-use Rattle.c_lex.specs.declared.piece.Piece.TheVariants as Q
 use Rattle.c_lex.specs.declared.piece.Shape.{Shape}
-use Rattle.c_lex.specs.declared.token.Number.{Number}
-use Rattle.c_lex.specs.declared.token.TokenKind.TheVariants as K
-use Rattle.c_lex.specs.Bytes.{begins_with, begins}
-use Rattle.c_lex.specs.Spellings.{Row, Has, IsLongest, suffixes, is_hexadecimal, form_of, prefix_of, is_digit, value_of, IsNumber, spoils}
-use Rattle.c_lex.specs.inner.Reading.{◌>>=◌, either, first_row, digits_len, shape_of, fitting, number_with, number_of, number_at}
-use Rattle.c_lex.proofs.Runs.{both, some_one, run_all, run_ends, run_len, begins-split}
-use Rattle.c_lex.proofs.LongestRow.{is_ordered, first_row-takes, first_row-none, first_row-again}
-use Rattle.c_lex.proofs.Values.{Fitting, fitting-takes, fitting-again, wide-again}
+use Rattle.c_lex.specs.Bytes.{begins_with}
+use Rattle.c_lex.specs.Spellings.{Has, IsLongest, suffixes, form_of, prefix_of, is_digit, value_of, IsNumber}
+use Rattle.c_lex.specs.inner.Reading.{◌>>=◌, first_row, digits_len, shape_of, number_with}
+use Rattle.c_lex.proofs.Runs.{some_one, run_all, run_ends, begins-split}
+use Rattle.c_lex.proofs.LongestRow.{is_ordered, first_row-takes, first_row-none}
 
 pub bind_some : {A B : Type 0} (o : Option A) (f : A → Option B) (r : B) → ◌>>=◌ o f ≡ Some r → (a : A) × (o ≡ Some a) × (f a ≡ Some r)
 bind_some None f r e = absurd (cc)
@@ -82,27 +75,31 @@ shape_of-takes bytes s d e =
     let rest : List ℕ = drop (length suffix) end in
     let text : List ℕ = take p bytes ++ (take n after ++ suffix) in
     let whole : bytes ≡ text ++ rest = parts bytes after end (take p bytes) (take n after) suffix rest
-        (sym (take-append-drop p bytes)) (sym (take-append-drop n after) ∙ ap (λ (x : List ℕ). take n after ++ x) (drop-drop n p bytes)) (begins-split suffix end t.1.first) in
+    (sym (take-append-drop p bytes)) (sym (take-append-drop n after) ∙ ap (λ (x : List ℕ). take n after ++ x) (drop-drop n p bytes)) (begins-split suffix end t.1.first) in
     let prefix_len : length (take p bytes) ≡ p = length-take-le p bytes (prefix-within bytes) in
     let digits_count : length (take n after) ≡ n = length-prefix_len (is_digit form) after in
     let len : p + n + b.0.1 ≡ length text = omega (arith, length-append (take p bytes) (take n after ++ suffix), length-append (take n after) suffix, t.2) in
     let back : suffix ++ rest ≡ end = sym (begins-split suffix end t.1.first) in
-    subst (λ (x : Shape). (text : List ℕ) × (rest : List ℕ) × HasShape bytes x text rest) is (text, rest, record {
-      split = record { whole = whole; len = len };
-      number = record {
-        prefix = take p bytes;
-        digits = take n after;
-        suffix = suffix;
-        begins_so = subst (λ (x : List ℕ). begins_with is_ascii_digit x ≡ true) whole d;
-        spelled = refl;
-        form = ap form_of whole;
-        prefix_len = prefix_len;
-        are_digits = run_all (is_digit form) after;
-        all_digits = subst (λ (x : List ℕ). begins_with (is_digit form) x ≡ false) (drop-drop n p bytes ∙ sym back) (run_ends (is_digit form) after);
-        value = refl;
-        suffix_is = subst (λ (x : List ℕ). IsLongest false suffixes suffix b.0.0 x) (sym back) t.1;
-      };
-    })
+    subst (λ (x : Shape). (text : List ℕ) × (rest : List ℕ) × HasShape bytes x text rest) is (
+      text,
+      rest,
+      record {
+        split = record { whole = whole; len = len };
+        number = record {
+          prefix = take p bytes;
+          digits = take n after;
+          suffix = suffix;
+          begins_so = subst (λ (x : List ℕ). begins_with is_ascii_digit x ≡ true) whole d;
+          spelled = refl;
+          form = ap form_of whole;
+          prefix_len = prefix_len;
+          are_digits = run_all (is_digit form) after;
+          all_digits = subst (λ (x : List ℕ). begins_with (is_digit form) x ≡ false) (drop-drop n p bytes ∙ sym back) (run_ends (is_digit form) after);
+          value = refl;
+          suffix_is = subst (λ (x : List ℕ). IsLongest false suffixes suffix b.0.0 x) (sym back) t.1;
+        };
+      },
+    )
 
 pub shape_of-some : (bytes : List ℕ) → shape_of bytes ≡ None → ⊥
 unfolding shape_of

@@ -1,9 +1,9 @@
 -- Pieces lead from a spot in one way, to one end or one fault.
-use Rattle.std.proofs.Common.{◌≡◌, ◌⊎◌, inl, inr, ℕ, ◌++◌, ◌∷◌, [], List, Option, Some, None, refl, ap, sym, ◌∙◌, subst}
+use Rattle.std.proofs.Common.{◌≡◌, ℕ, ◌++◌, ◌∷◌, [], List, Option, Some, None, refl, ap, sym, ◌∙◌, subst}
 use Rattle.c_lex.specs.declared.fault.LexFault.{LexFault}
 use Rattle.c_lex.specs.declared.fault.LexFault.TheVariants as F
 use Rattle.c_lex.specs.declared.token.Token.{Token}
-use Rattle.c_lex.specs.Tokens.{Spot, start, Goes, Stops, IsEnd, Reaches, tokens_of, Lexes, Stuck, AreOnly, IsOnlyFault, UnlessMemory}
+use Rattle.c_lex.specs.Tokens.{Spot, start, Goes, Reaches, tokens_of, Lexes, Stuck, AreOnly, IsOnlyFault, UnlessMemory}
 use Rattle.c_lex.specs.inner.Reading.{Move, AtEnd, To, Fault, step_of}
 use Rattle.c_lex.proofs.Steps.{goes-again, end-again, stops-again, Says, step_of-takes}
 

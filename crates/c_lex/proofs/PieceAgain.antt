@@ -1,10 +1,10 @@
 -- The piece that stands first is the one that is read.
-use Rattle.std.proofs.Common.{◌≡◌, ◌⊎◌, inl, inr, ◌+◌, ◌<◌, ◌≤◌, ◌^◌, ◌++◌, ◌∷◌, [], ℕ, List, Bool, true, false, Option, Some, None, refl, ap, sym, ◌∙◌, subst, take, drop, length, append_assoc, append-nil, length-append, add-one, arith}
-use Rattle.std.specs.Prelude.{◌==◌, ◌||◌, ◌&&◌, not, nat_le, if◌then◌else◌, codes}
+use Rattle.std.proofs.Common.{◌≡◌, inl, inr, ◌+◌, ◌<◌, ◌≤◌, ◌^◌, ◌++◌, ◌∷◌, [], ℕ, List, Bool, true, false, Option, Some, None, refl, ap, sym, ◌∙◌, subst, drop, length, append_assoc, length-append, add-one, arith}
+use Rattle.std.specs.Prelude.{◌==◌, ◌||◌, ◌&&◌, not, nat_le, if◌then◌else◌}
 use Rattle.std.specs.List.{prefix_len, list_all}
 use Rattle.std.specs.Char.{is_ascii_digit}
-use Rattle.std.proofs.lemmas.Bool.Decides.{nat_tests, Decides-eqb}
-use Rattle.std.proofs.Math.Seq.{drop-append_seam, take-append_seam}
+use Rattle.std.proofs.lemmas.Bool.Decides.{nat_tests}
+use Rattle.std.proofs.Math.Seq.{take-append_seam}
 use Rattle.c_lex.specs.declared.piece.Piece.{Piece}
 use Rattle.c_lex.specs.declared.piece.Piece.TheVariants as Q
 use Rattle.c_lex.specs.declared.token.Number.{Number}
@@ -12,15 +12,15 @@ use Rattle.c_lex.specs.declared.token.Punct.{Punct}
 use Rattle.c_lex.specs.declared.token.Word.{Word}
 use Rattle.c_lex.specs.declared.token.TokenKind.{TokenKind}
 use Rattle.c_lex.specs.declared.token.TokenKind.TheVariants as K
-use Rattle.c_lex.specs.Bytes.{begins_with, begins, is_blank, is_in_line}
+use Rattle.c_lex.specs.Bytes.{begins_with, is_blank, is_in_line}
 use Rattle.c_lex.specs.Spellings.{Row, Has, IsLongest, puncts, begins_word, goes_on, is_word, word_of, IsNumber, spoils, escape, is_plain, IsChar, IsText}
 use Rattle.c_lex.specs.Tokens.{has_no_close, is_line_end, is_marker, IsGap, begins_other, Spells, IsNote}
 use Rattle.c_lex.specs.Tokens as T
-use Rattle.c_lex.specs.inner.Reading.{either, first_row, punct_at, word_at, number_at, split, escaped_at, char_value, char_at, text_len, text_at, inside_len, line_len, block_at, line_at, slash_at, marker_at, symbol_at, piece_at}
-use Rattle.c_lex.proofs.Runs.{both, both_are, not_true, not_false, run_len, begins-split}
+use Rattle.c_lex.specs.inner.Reading.{either, punct_at, word_at, number_at, escaped_at, char_value, char_at, text_len, text_at, inside_len, line_len, block_at, line_at, slash_at, marker_at, symbol_at, piece_at}
+use Rattle.c_lex.proofs.Runs.{both, not_false, run_len}
 use Rattle.c_lex.proofs.LongestRow.{first_row-again}
 use Rattle.c_lex.proofs.Counted.{spoiled-again, number-again, too_wide-again}
-use Rattle.c_lex.proofs.Scans.{byte_is, inside_len-again, inside_len-open, text_len-again}
+use Rattle.c_lex.proofs.Scans.{inside_len-again, inside_len-open, text_len-again}
 use Rattle.c_lex.proofs.Takes.{ordered}
 
 -- the piece that stands first in some bytes
@@ -97,17 +97,17 @@ gap-again note fresh text rest (T.Block body n e a h) =
     let len : length body + 4 ≡ length (47 ∷ 42 ∷ (body ++ 42 ∷ 47 ∷ [])) = omega (arith, length-append body (42 ∷ 47 ∷ [])) in
     subst (λ (m : Bool). read m fresh (text ++ rest) ≡ Q.Gap (length text)) (sym n)
     (subst (λ (t : List ℕ). read false fresh (t ++ rest) ≡ Q.Gap (length t)) (sym e)
-        (read_block fresh ((body ++ 42 ∷ 47 ∷ []) ++ rest) ∙ ap block_at (append_assoc body (42 ∷ 47 ∷ []) rest) ∙ block-gap body rest a h ∙ ap Q.Gap len))
+    (read_block fresh ((body ++ 42 ∷ 47 ∷ []) ++ rest) ∙ ap block_at (append_assoc body (42 ∷ 47 ∷ []) rest) ∙ block-gap body rest a h ∙ ap Q.Gap len))
 gap-again note fresh text rest (T.Line body n e a l r) =
     let len : length body + 2 ≡ length (47 ∷ 47 ∷ body) = omega arith in
     subst (λ (m : Bool). read m fresh (text ++ rest) ≡ Q.Gap (length text)) (sym n)
     (subst (λ (t : List ℕ). read false fresh (t ++ rest) ≡ Q.Gap (length t)) (sym e)
-        (read_line fresh (body ++ rest) ∙ line-gap body rest a l r ∙ ap Q.Gap len))
+    (read_line fresh (body ++ rest) ∙ line-gap body rest a l r ∙ ap Q.Gap len))
 gap-again note fresh text rest (T.Marker body f e m l r) =
     let len : length body + 1 ≡ length (35 ∷ body) = omega arith in
     subst (λ (x : Bool). read note x (text ++ rest) ≡ Q.Gap (length text)) (sym f)
     (subst (λ (t : List ℕ). read note true (t ++ rest) ≡ Q.Gap (length t)) (sym e)
-        (read_marker note (body ++ rest) ∙ marker-gap note body rest m l r ∙ ap Q.Gap len))
+    (read_marker note (body ++ rest) ∙ marker-gap note body rest m l r ∙ ap Q.Gap len))
 
 pub note-again : (fresh : Bool) (bytes inside after : List ℕ) → IsNote bytes inside after → read false fresh bytes ≡ Q.Note (length inside)
 note-again fresh bytes inside after (inl h) =
@@ -223,7 +223,7 @@ text-again note fresh text rest h =
     let len : length body + 2 ≡ length (34 ∷ (body ++ 34 ∷ [])) = omega (arith, length-append body (34 ∷ [])) in
     let e : text_len false ((body ++ 34 ∷ []) ++ rest) ≡ Some (length body) = rw (append_assoc body (34 ∷ []) rest) (text_len-again false body rest h.2) in
     subst (λ (t : List ℕ). read note fresh (t ++ rest) ≡ Q.Token K.Text (length t)) (sym h.1)
-        (read_text note fresh ((body ++ 34 ∷ []) ++ rest) ∙ text_quoted ((body ++ 34 ∷ []) ++ rest) (length body) e ∙ ap (λ (n : ℕ). Q.Token K.Text n) len)
+    (read_text note fresh ((body ++ 34 ∷ []) ++ rest) ∙ text_quoted ((body ++ 34 ∷ []) ++ rest) (length body) e ∙ ap (λ (n : ℕ). Q.Token K.Text n) len)
 
 -- Punctuators.
 
@@ -285,7 +285,7 @@ unfolding slash_at
 read_punct note fresh b more h o =
     read_symbol note fresh b more h
     ∙ third note fresh (b == 47) (b == 35) (begins_with (λ c. c == 42) more) (begins_with (λ c. c == 47) more)
-        (block_at (drop 1 more)) (line_at (drop 1 more)) (marker_at note more) (λ n. punct_at n (b ∷ more)) o
+    (block_at (drop 1 more)) (line_at (drop 1 more)) (marker_at note more) (λ n. punct_at n (b ∷ more)) o
 
 punct_at-again : (note : Bool) (text bytes : List ℕ) (p : Punct) → IsLongest note puncts text p bytes → punct_at note bytes ≡ Q.Token (K.Punct p) (length text)
 unfolding punct_at

@@ -1,8 +1,8 @@
 -- What is looked for is found: the end of a comment, of a string literal and of a line.
-use Rattle.std.proofs.Common.{◌≡◌, ◌⊎◌, inl, inr, ◌+◌, ◌<◌, ◌≤◌, ◌++◌, ◌∷◌, [], ℕ, List, Bool, true, false, Option, Some, None, refl, ap, sym, ◌∙◌, subst, take, drop, length, length-append, arith}
-use Rattle.std.specs.Prelude.{◌==◌, ◌||◌, ◌&&◌, not, nat_le, if◌then◌else◌}
+use Rattle.std.proofs.Common.{◌≡◌, ◌⊎◌, inl, inr, ◌+◌, ◌++◌, ◌∷◌, [], ℕ, List, Bool, true, false, Option, Some, None, refl, ap, sym, ◌∙◌, drop, length, arith}
+use Rattle.std.specs.Prelude.{◌==◌, ◌&&◌, not, if◌then◌else◌}
 use Rattle.std.specs.Option.{option_map}
-use Rattle.std.proofs.lemmas.Bool.Decides.{nat_tests, Decides-eqb}
+use Rattle.std.proofs.lemmas.Bool.Decides.{Decides-eqb}
 use Rattle.c_lex.specs.Bytes.{begins_with, is_in_line}
 use Rattle.c_lex.specs.Spellings.{is_quotable}
 use Rattle.c_lex.specs.Tokens.{has_no_close}
@@ -35,7 +35,6 @@ first_same : (p : ℕ → Bool) (body x y : List ℕ) → begins_with p (body ++
 first_same p [] x y = refl
 first_same p (b ∷ body) x y = refl
 
-
 pub record IsInside (bytes : List ℕ) (n : ℕ) (body rest : List ℕ) : Type 0 where
   pub whole : bytes ≡ body ++ 42 ∷ 47 ∷ rest
   pub len : n ≡ length body
@@ -58,13 +57,16 @@ inside_len-takes (b ∷ bs) n e =
         let i = ih m.0 m.1 in
         let r = i.2 in
         let same : begins_with (λ c. c == 47) (i.0 ++ 42 ∷ []) ≡ begins_with (λ c. c == 47) bs =
-            first_same (λ c. c == 47) i.0 [] (47 ∷ i.1) ∙ ap (λ (x : List ℕ). begins_with (λ c. c == 47) x) (sym r.whole) in
-        let not_here : not (b == 42 && begins_with (λ c. c == 47) (i.0 ++ 42 ∷ [])) ≡ true = rw same (not_true (b == 42 && begins_with (λ c. c == 47) bs) h.0) in
-        (b ∷ i.0, i.1, record {
-          whole = ap (λ (x : List ℕ). b ∷ x) r.whole;
-          len = omega (arith, m.2, r.len);
-          first = both_are (not (b == 42 && begins_with (λ c. c == 47) (i.0 ++ 42 ∷ []))) (has_no_close (i.0 ++ 42 ∷ [])) not_here r.first;
-        })
+        first_same (λ c. c == 47) i.0 [] (47 ∷ i.1) ∙ ap (λ (x : List ℕ). begins_with (λ c. c == 47) x) (sym r.whole) in
+        let not_here : not (b == 42 && begins_with (λ c. c == 47) (i.0 ++ 42 ∷ [])) ≡ true = rw same (not_true (b == 42 && begins_with (λ c. c == 47) bs) h.0) in (
+          b ∷ i.0,
+          i.1,
+          record {
+            whole = ap (λ (x : List ℕ). b ∷ x) r.whole;
+            len = omega (arith, m.2, r.len);
+            first = both_are (not (b == 42 && begins_with (λ c. c == 47) (i.0 ++ 42 ∷ []))) (has_no_close (i.0 ++ 42 ∷ [])) not_here r.first;
+          },
+        )
 
 pub inside_len-none : (bytes : List ℕ) → inside_len bytes ≡ None → has_no_close bytes ≡ true
 inside_len-none [] e = refl
@@ -77,7 +79,7 @@ inside_len-again [] rest h = refl
 inside_len-again (b ∷ body) rest h =
     let s = both (not (b == 42 && begins_with (λ c. c == 47) (body ++ 42 ∷ []))) (has_no_close (body ++ 42 ∷ [])) h in
     let f : (b == 42 && begins_with (λ c. c == 47) (body ++ 42 ∷ 47 ∷ rest)) ≡ false =
-        rw (first_same (λ c. c == 47) body (47 ∷ rest) []) (not_false (b == 42 && begins_with (λ c. c == 47) (body ++ 42 ∷ [])) s.0) in
+    rw (first_same (λ c. c == 47) body (47 ∷ rest) []) (not_false (b == 42 && begins_with (λ c. c == 47) (body ++ 42 ∷ [])) s.0) in
     rw (f, inside_len-again body rest s.1) (ap Some (omega arith))
 
 pub inside_len-open : (bytes : List ℕ) → has_no_close bytes ≡ true → inside_len bytes ≡ None
@@ -104,12 +106,15 @@ text_len-takes true (b ∷ bs) n e = step (text_len-takes false bs) (if_either (
     step ih (inr h) =
         let m = map_some (λ n. 1 + n) (text_len false bs) n h.1 in
         let i = ih m.0 m.1 in
-        let r = i.2 in
-        (b ∷ i.0, i.1, record {
-          whole = ap (λ (x : List ℕ). b ∷ x) r.whole;
-          len = omega (arith, m.2, r.len);
-          inner = both_are (is_in_line b) (is_quotable false i.0) (not_true (b == 10) h.0) r.inner;
-        })
+        let r = i.2 in (
+          b ∷ i.0,
+          i.1,
+          record {
+            whole = ap (λ (x : List ℕ). b ∷ x) r.whole;
+            len = omega (arith, m.2, r.len);
+            inner = both_are (is_in_line b) (is_quotable false i.0) (not_true (b == 10) h.0) r.inner;
+          },
+        )
 text_len-takes false (b ∷ bs) n e =
     step (text_len-takes (b == 92) bs) (if_either (b == 10) None (if b == 34 then Some 0 else option_map (λ n. 1 + n) (text_len (b == 92) bs)) (Some n) e)
   where
@@ -120,12 +125,15 @@ text_len-takes false (b ∷ bs) n e =
     quote ih l (inr h) =
         let m = map_some (λ n. 1 + n) (text_len (b == 92) bs) n h.1 in
         let i = ih m.0 m.1 in
-        let r = i.2 in
-        (b ∷ i.0, i.1, record {
-          whole = ap (λ (x : List ℕ). b ∷ x) r.whole;
-          len = omega (arith, m.2, r.len);
-          inner = both_are (is_in_line b) (not (b == 34) && is_quotable (b == 92) i.0) (not_true (b == 10) l) (both_are (not (b == 34)) (is_quotable (b == 92) i.0) (not_true (b == 34) h.0) r.inner);
-        })
+        let r = i.2 in (
+          b ∷ i.0,
+          i.1,
+          record {
+            whole = ap (λ (x : List ℕ). b ∷ x) r.whole;
+            len = omega (arith, m.2, r.len);
+            inner = both_are (is_in_line b) (not (b == 34) && is_quotable (b == 92) i.0) (not_true (b == 10) l) (both_are (not (b == 34)) (is_quotable (b == 92) i.0) (not_true (b == 34) h.0) r.inner);
+          },
+        )
 
     step : ((n : ℕ) → text_len (b == 92) bs ≡ Some n → (body : List ℕ) × (rest : List ℕ) × IsQuoted (b == 92) bs n body rest)
         → (((b == 10) ≡ true) × ◌≡◌ {A = Option ℕ} None (Some n))

@@ -1,5 +1,5 @@
 -- The step that is read is the one that there is, and no other.
-use Rattle.std.proofs.Common.{◌≡◌, ◌⊎◌, ◌≢◌, inl, inr, ℕ, ◌+◌, ◌<◌, ◌≤◌, ◌^◌, ◌++◌, ◌∷◌, [], List, Bool, true, false, Option, Some, None, refl, ap, sym, ◌∙◌, subst, length, take, drop, length-append, add-zero, arith}
+use Rattle.std.proofs.Common.{◌≡◌, ◌⊎◌, inl, inr, ℕ, ◌+◌, ◌≤◌, ◌^◌, ◌++◌, ◌∷◌, [], List, Bool, true, false, Option, Some, None, refl, ap, sym, ◌∙◌, subst, length, take, drop, length-append, arith}
 use Rattle.std.specs.Prelude.{◌==◌, ◌||◌, ◌&&◌, not, nat_le, nat_lt, if◌then◌else◌}
 use Rattle.std.proofs.lemmas.Bool.Decides.{nat_tests}
 use Rattle.std.proofs.Math.Seq.{drop-append_seam, take-append_seam}
@@ -16,8 +16,6 @@ use Rattle.c_lex.specs.Spellings.{is_word, IsNumber, spoils}
 use Rattle.c_lex.specs.Tokens.{Spot, has_no_close, is_marker, IsNote, begins_other, Goes, Stops, BeginsLonger, BeginsNothing, IsEnd, past, past_note, in_note, token_at, close_len}
 use Rattle.c_lex.specs.Tokens as T
 use Rattle.c_lex.specs.inner.Reading.{Move, AtEnd, To, Fault, either, inside_len, line_len, block_at, line_at, marker_at, piece_at, move_of, end_of, next_of, step_of}
-use Rattle.c_lex.proofs.Runs.{both}
-use Rattle.c_lex.proofs.Numbers.{IsSplit}
 use Rattle.c_lex.proofs.Counted.{number_some}
 use Rattle.c_lex.proofs.Scans.{first_is, byte_is}
 use Rattle.c_lex.proofs.Takes.{Reads, piece_at-takes}
@@ -81,7 +79,6 @@ unfolding step_of end_of
 end-again s h = ap (next_of s) h.1 ∙ rw h.0 refl
 
 -- A bad byte.
-
 
 block_bad : (rest : List ℕ) → block_at rest ≡ Q.Bad 0 → ⊥
 unfolding block_at

@@ -1,6 +1,6 @@
 -- The piece that is read is one that stands first.
-use Rattle.std.proofs.Common.{◌≡◌, ◌⊎◌, inl, inr, ◌+◌, ◌<◌, ◌≤◌, ◌^◌, ◌++◌, ◌∷◌, [], ℕ, List, Bool, true, false, Option, Some, None, refl, ap, sym, ◌∙◌, subst, take, drop, length, append_assoc, append-nil, length-append, add-one, arith}
-use Rattle.std.specs.Prelude.{◌==◌, ◌||◌, ◌&&◌, not, nat_le, if◌then◌else◌, codes}
+use Rattle.std.proofs.Common.{◌≡◌, ◌⊎◌, inl, inr, ◌+◌, ◌<◌, ◌≤◌, ◌^◌, ◌++◌, ◌∷◌, [], ℕ, List, Bool, true, false, Option, Some, None, refl, ap, sym, ◌∙◌, subst, take, drop, length, append_assoc, length-append, add-one, arith}
+use Rattle.std.specs.Prelude.{◌==◌, ◌||◌, ◌&&◌, not, nat_le, if◌then◌else◌}
 use Rattle.std.specs.List.{prefix_len, list_all}
 use Rattle.std.specs.Char.{is_ascii_digit}
 use Rattle.std.proofs.lemmas.Bool.Decides.{nat_tests}
@@ -12,16 +12,16 @@ use Rattle.c_lex.specs.declared.token.Number.{Number}
 use Rattle.c_lex.specs.declared.token.Punct.{Punct}
 use Rattle.c_lex.specs.declared.token.TokenKind.{TokenKind}
 use Rattle.c_lex.specs.declared.token.TokenKind.TheVariants as K
-use Rattle.c_lex.specs.Bytes.{begins_with, begins, is_blank, is_in_line}
-use Rattle.c_lex.specs.Spellings.{Row, Has, IsLongest, puncts, begins_word, goes_on, is_word, word_of, IsNumber, spoils, escape, is_plain}
+use Rattle.c_lex.specs.Bytes.{begins_with, is_blank, is_in_line}
+use Rattle.c_lex.specs.Spellings.{IsLongest, puncts, begins_word, goes_on, is_word, word_of, IsNumber, spoils, escape, is_plain}
 use Rattle.c_lex.specs.Tokens.{has_no_close, is_line_end, is_marker, IsGap, begins_other, Spells, IsNote}
 use Rattle.c_lex.specs.Tokens as T
-use Rattle.c_lex.specs.inner.Reading.{◌>>=◌, either, first_row, punct_at, word_at, number_at, split, escaped_at, char_value, char_at, text_len, text_at, inside_len, line_len, block_at, line_at, slash_at, marker_at, symbol_at, piece_at}
-use Rattle.c_lex.proofs.Runs.{both, both_are, not_true, not_false, some_one, if_either, run_all, run_ends, begins-split}
+use Rattle.c_lex.specs.inner.Reading.{◌>>=◌, either, first_row, punct_at, word_at, number_at, escaped_at, char_value, char_at, text_len, text_at, inside_len, line_len, block_at, line_at, slash_at, marker_at, symbol_at, piece_at}
+use Rattle.c_lex.proofs.Runs.{both, both_are, not_true, not_false, run_all, run_ends, begins-split}
 use Rattle.c_lex.proofs.LongestRow.{is_ordered, first_row-takes}
 use Rattle.c_lex.proofs.Numbers.{IsSplit}
 use Rattle.c_lex.proofs.Counted.{Counted, number_at-takes}
-use Rattle.c_lex.proofs.Scans.{first_is, byte_is, IsInside, inside_len-takes, inside_len-none, IsQuoted, text_len-takes}
+use Rattle.c_lex.proofs.Scans.{first_is, byte_is, inside_len-takes, inside_len-none, text_len-takes}
 
 -- what a piece says of the bytes
 abbrev pub Reads : Bool → Bool → List ℕ → Piece → Type 0
@@ -60,8 +60,8 @@ word_is note b more w l =
     let len : length run ≡ prefix_len (goes_on b) more = length-prefix_len (goes_on b) more in
     both_are (begins_word note b && list_all (goes_on b) run && not (begins_with (goes_on b) rest)) (not (b == 92) || nat_le 1 (length run))
     (both_are (begins_word note b && list_all (goes_on b) run) (not (begins_with (goes_on b) rest))
-        (both_are (begins_word note b) (list_all (goes_on b) run) w (run_all (goes_on b) more))
-        (not_true (begins_with (goes_on b) rest) (run_ends (goes_on b) more)))
+    (both_are (begins_word note b) (list_all (goes_on b) run) w (run_all (goes_on b) more))
+    (not_true (begins_with (goes_on b) rest) (run_ends (goes_on b) more)))
     (rw len (some (b == 92) l))
   where
     some : (c : Bool) → (c && prefix_len (goes_on b) more == 0) ≡ false → (not c || nat_le 1 (prefix_len (goes_on b) more)) ≡ true
@@ -85,9 +85,12 @@ word_at-takes note fresh b more w = lone (b == 92 && n == 0) refl
         → Reads note fresh (b ∷ more) (if c then Q.Long else Q.Token (K.Word (word_of (take (n + 1) (b ∷ more)))) (n + 1))
     long l true e = let many : 256 ≤ n = grind (arith, nat_tests) in (b ∷ take n more, drop n more, whole, word_is note b more w l, omega (arith, len))
     long l false e =
-        let few : n < 256 = grind (arith, nat_tests) in
-        (b ∷ take n more, drop n more, record { whole = whole; len = omega (arith, len) },
-            (word_is note b more w l, omega (arith, len), ap word_of (rw (add-one n) refl)))
+        let few : n < 256 = grind (arith, nat_tests) in (
+          b ∷ take n more,
+          drop n more,
+          record { whole = whole; len = omega (arith, len) },
+          (word_is note b more w l, omega (arith, len), ap word_of (rw (add-one n) refl)),
+        )
 
     lone : (c : Bool) → (b == 92 && n == 0) ≡ c
         → Reads note fresh (b ∷ more) (if c then Q.Bad 0 else (if nat_le 256 n then Q.Long else Q.Token (K.Word (word_of (take (n + 1) (b ∷ more)))) (n + 1)))
@@ -108,9 +111,12 @@ punct_at-takes note fresh bytes o = step (first_row note puncts bytes) refl
     step None e = inl refl
     step (Some r) e =
         let t = first_row-takes note puncts bytes r.0 r.1 ordered e in
-        let whole : bytes ≡ t.0 ++ drop (length t.0) bytes = begins-split t.0 bytes t.1.first in
-        (t.0, drop (length t.0) bytes, record { whole = whole; len = t.2 },
-            (subst (λ (x : List ℕ). IsLongest note puncts t.0 r.0 x) whole t.1, subst (λ (x : List ℕ). begins_other note fresh x ≡ false) whole o))
+        let whole : bytes ≡ t.0 ++ drop (length t.0) bytes = begins-split t.0 bytes t.1.first in (
+          t.0,
+          drop (length t.0) bytes,
+          record { whole = whole; len = t.2 },
+          (subst (λ (x : List ℕ). IsLongest note puncts t.0 r.0 x) whole t.1, subst (λ (x : List ℕ). begins_other note fresh x ≡ false) whole o),
+        )
 
 -- Character constants and string literals.
 
@@ -137,7 +143,7 @@ char_at-takes note fresh (c ∷ more) = escaped (c == 92) refl
     closed b v rest p q e false t = inl refl
     closed b v rest p q e true t =
         char_of note fresh v 4 (39 ∷ 92 ∷ b ∷ 39 ∷ []) (drop 1 rest) (c ∷ more)
-            (ap (λ (x : ℕ). 39 ∷ x ∷ more) p ∙ ap (λ (x : List ℕ). 39 ∷ 92 ∷ x) q ∙ ap (λ (x : List ℕ). 39 ∷ 92 ∷ b ∷ x) (first_is 39 rest t)) refl (inr (b, refl, e))
+        (ap (λ (x : ℕ). 39 ∷ x ∷ more) p ∙ ap (λ (x : List ℕ). 39 ∷ 92 ∷ x) q ∙ ap (λ (x : List ℕ). 39 ∷ 92 ∷ b ∷ x) (first_is 39 rest t)) refl (inr (b, refl, e))
 
     value : (b : ℕ) (rest : List ℕ) → c ≡ 92 → more ≡ b ∷ rest → (o : Option ℕ) → escape b ≡ o
         → Reads note fresh (39 ∷ c ∷ more) (either (◌>>=◌ o (λ v. if◌then◌else◌ {A = Option (ℕ × ℕ)} (begins_with (λ b. b == 39) rest) (Some (v, 4)) None)) (λ c. Q.Token (K.Char c.0) c.1) (Q.Bad 0))
@@ -161,11 +167,15 @@ text_at-takes note fresh more = step (text_len false more) refl
     step None e = inl refl
     step (Some n) e =
         let t = text_len-takes false more n e in
-        let q = t.2 in
-        (34 ∷ (t.0 ++ 34 ∷ []), t.1, record {
-          whole = ap (λ (x : List ℕ). 34 ∷ x) (q.whole ∙ sym (append_assoc t.0 (34 ∷ []) t.1));
-          len = omega (arith, q.len, length-append t.0 (34 ∷ []));
-        }, (t.0, refl, q.inner))
+        let q = t.2 in (
+          34 ∷ (t.0 ++ 34 ∷ []),
+          t.1,
+          record {
+            whole = ap (λ (x : List ℕ). 34 ∷ x) (q.whole ∙ sym (append_assoc t.0 (34 ∷ []) t.1));
+            len = omega (arith, q.len, length-append t.0 (34 ∷ []));
+          },
+          (t.0, refl, q.inner),
+        )
 
 -- Comments, notes and line markers.
 
@@ -188,11 +198,15 @@ block_at-takes fresh rest = step (begins_with (λ b. b == 64) rest) refl
     comment a None e = (rest, refl, refl, inside_len-none rest e)
     comment a (Some n) e =
         let t = inside_len-takes rest n e in
-        let i = t.2 in
-        (47 ∷ 42 ∷ (t.0 ++ 42 ∷ 47 ∷ []), t.1, record {
-          whole = ap (λ (x : List ℕ). 47 ∷ 42 ∷ x) (i.whole ∙ sym (append_assoc t.0 (42 ∷ 47 ∷ []) t.1));
-          len = omega (arith, i.len, length-append t.0 (42 ∷ 47 ∷ []));
-        }, T.Block t.0 refl refl (not_at t.0 (47 ∷ t.1) i.whole a) i.first)
+        let i = t.2 in (
+          47 ∷ 42 ∷ (t.0 ++ 42 ∷ 47 ∷ []),
+          t.1,
+          record {
+            whole = ap (λ (x : List ℕ). 47 ∷ 42 ∷ x) (i.whole ∙ sym (append_assoc t.0 (42 ∷ 47 ∷ []) t.1));
+            len = omega (arith, i.len, length-append t.0 (42 ∷ 47 ∷ []));
+          },
+          T.Block t.0 refl refl (not_at t.0 (47 ∷ t.1) i.whole a) i.first,
+        )
 
     step : (c : Bool) → begins_with (λ b. b == 64) rest ≡ c
         → Reads false fresh (47 ∷ 42 ∷ rest) (if c then either (inside_len (drop 1 rest)) Q.Note Q.Open else either (inside_len rest) (λ n. Q.Gap (n + 4)) Q.Open)
@@ -212,18 +226,28 @@ line_at-takes fresh rest = step (begins_with (λ b. b == 64) rest) refl
     step : (c : Bool) → begins_with (λ b. b == 64) rest ≡ c → Reads false fresh (47 ∷ 47 ∷ rest) (if c then Q.Note (line_len (drop 1 rest)) else Q.Gap (line_len rest + 2))
     step true e =
         let inside : List ℕ = drop 1 rest in
-        let n : ℕ = line_len inside in
-        (take n inside, drop n inside, refl, inr (
-          ap (λ (x : List ℕ). 47 ∷ 47 ∷ x) (first_is 64 rest e ∙ ap (λ (x : List ℕ). 64 ∷ x) (sym (take-append-drop n inside))),
-          line_all inside,
-          line_ends_there inside), sym (length-prefix_len is_in_line inside))
+        let n : ℕ = line_len inside in (
+          take n inside,
+          drop n inside,
+          refl,
+          inr (
+            ap (λ (x : List ℕ). 47 ∷ 47 ∷ x) (first_is 64 rest e ∙ ap (λ (x : List ℕ). 64 ∷ x) (sym (take-append-drop n inside))),
+            line_all inside,
+            line_ends_there inside,
+          ),
+          sym (length-prefix_len is_in_line inside),
+        )
     step false e =
         let n : ℕ = line_len rest in
-        let back : rest ≡ take n rest ++ drop n rest = sym (take-append-drop n rest) in
-        (47 ∷ 47 ∷ take n rest, drop n rest, record {
-          whole = ap (λ (x : List ℕ). 47 ∷ 47 ∷ x) back;
-          len = omega (arith, length-prefix_len is_in_line rest);
-        }, T.Line (take n rest) refl refl (subst (λ (x : List ℕ). begins_with (λ b. b == 64) x ≡ false) back e) (line_all rest) (line_ends_there rest))
+        let back : rest ≡ take n rest ++ drop n rest = sym (take-append-drop n rest) in (
+          47 ∷ 47 ∷ take n rest,
+          drop n rest,
+          record {
+            whole = ap (λ (x : List ℕ). 47 ∷ 47 ∷ x) back;
+            len = omega (arith, length-prefix_len is_in_line rest);
+          },
+          T.Line (take n rest) refl refl (subst (λ (x : List ℕ). begins_with (λ b. b == 64) x ≡ false) back e) (line_all rest) (line_ends_there rest),
+        )
 
 marker_at-takes : (note : Bool) (more : List ℕ) → Reads note true (35 ∷ more) (marker_at note more)
 unfolding marker_at
@@ -232,11 +256,15 @@ marker_at-takes note more = step (is_marker note more) refl
     step : (c : Bool) → is_marker note more ≡ c → Reads note true (35 ∷ more) (if c then Q.Gap (line_len more + 1) else Q.Directive)
     step true e =
         let n : ℕ = line_len more in
-        let back : more ≡ take n more ++ drop n more = sym (take-append-drop n more) in
-        (35 ∷ take n more, drop n more, record {
-          whole = ap (λ (x : List ℕ). 35 ∷ x) back;
-          len = omega (arith, length-prefix_len is_in_line more);
-        }, T.Marker (take n more) refl refl (subst (λ (x : List ℕ). is_marker note x ≡ true) back e) (line_all more) (line_ends_there more))
+        let back : more ≡ take n more ++ drop n more = sym (take-append-drop n more) in (
+          35 ∷ take n more,
+          drop n more,
+          record {
+            whole = ap (λ (x : List ℕ). 35 ∷ x) back;
+            len = omega (arith, length-prefix_len is_in_line more);
+          },
+          T.Marker (take n more) refl refl (subst (λ (x : List ℕ). is_marker note x ≡ true) back e) (line_all more) (line_ends_there more),
+        )
     step false e = (more, refl, refl, e)
 
 -- Symbols.

@@ -1,12 +1,11 @@
 -- The value of digits is read where it is below 2 ^ 127.
-use Rattle.std.proofs.Common.{◌≡◌, ◌⊎◌, inl, inr, ◌+◌, ◌*◌, ◌<◌, ◌≤◌, ◌^◌, ◌∷◌, [], ℕ, List, Bool, true, false, Option, Some, None, refl, ap, sym, ◌∙◌, arith}
+use Rattle.std.proofs.Common.{◌≡◌, ◌<◌, ◌≤◌, ◌^◌, ◌∷◌, [], ℕ, List, Bool, true, false, Option, Some, None, refl, ap, arith}
 use Rattle.std.specs.Prelude.{nat_lt, if◌then◌else◌}
 use Rattle.std.proofs.lemmas.Bool.Decides.{nat_tests}
 use Rattle.fc_base.specs.declared.syntax.LiteralForm.{LiteralForm}
 use Rattle.fc_base.specs.declared.syntax.LiteralForm.TheVariants as L
-use Rattle.c_lex.specs.Spellings.{digit, with_digit, value_of}
-use Rattle.c_lex.specs.inner.Reading.{either, fitting_digit, fitting}
-use Rattle.c_lex.proofs.Runs.{some_one}
+use Rattle.c_lex.specs.Spellings.{with_digit, value_of}
+use Rattle.c_lex.specs.inner.Reading.{either, fitting}
 
 with_digit-le : (f : LiteralForm) (n b : ℕ) → n ≤ with_digit f n b
 with_digit-le L.Hexadecimal n b = omega arith

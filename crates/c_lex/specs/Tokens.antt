@@ -3,7 +3,7 @@
 -- Main definitions: `Lexes bytes tokens`, the bytes have these tokens; `Stuck bytes fault`, they have none,
 -- and this is why. A text is read from left to right, each time by one `piece`: a blank, a comment, a line
 -- marker or a token. A `Spot` is a place between two pieces.
-use Rattle.std.specs.Prelude.{◌≡◌, ◌⊎◌, ◌+◌, ◌<◌, ◌≤◌, ◌≢◌, ◌^◌, ◌==◌, ◌&&◌, ◌||◌, ◌∷◌, ◌++◌, [], ℕ, List, Bool, true, false, Option, Some, None, codes, not, nat_le, nat_lt, length, drop, if◌then◌else◌}
+use Rattle.std.specs.Prelude.{◌≡◌, ◌⊎◌, ◌+◌, ◌<◌, ◌≤◌, ◌≢◌, ◌^◌, ◌==◌, ◌&&◌, ◌||◌, ◌∷◌, ◌++◌, [], ℕ, List, Bool, true, false, Option, Some, None, codes, not, nat_lt, length, drop, if◌then◌else◌}
 use Rattle.std.specs.List.{list_all}
 use Rattle.std.specs.Char.{is_ascii_digit}
 use Rattle.c_lex.specs.declared.fault.LexFault.{LexFault}

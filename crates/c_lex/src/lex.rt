@@ -1,7 +1,8 @@
 //! The tokens of a text, piece by piece.
 
-ghost use Rattle.std.specs.Prelude.{◌≡◌, ◌+◌, ◌≤◌, ◌<◌, ◌||◌, true, take, drop, nat_lt, length, IfOk, IfErr};
+ghost use Rattle.std.specs.Prelude.{◌≡◌, ◌+◌, ◌≤◌, ◌<◌, ◌||◌, true, take, drop, nat_lt, length, IfOk, IfErr, false};
 ghost use Rattle.c_lex.specs.Bytes.{line_ends};
+ghost use Rattle.c_lex.specs.Facts.{AreTokensOf, are_noted};
 ghost use Rattle.c_lex.specs.Tokens.{Lexes, AreOnly, Stuck, IsOnlyFault, UnlessMemory, past_note, in_note, token_at, close_len};
 ghost use Rattle.c_lex.specs.inner.Reading.{spot_of, seen, end_of, move_of, step_of, IsRoomy, GoesOn, IsPast, IsWithin};
 
@@ -141,7 +142,10 @@ fn end_of<'a>(place: Place<'a>) -> Step<'a>
         return Step::End;
     }
     let len = place.close_len();
-    Step::Token(place.token(TokenKind::NoteTo, len as u32), place.past_note(len))
+    Step::Token(
+        place.token(TokenKind::NoteTo, len as u32),
+        place.past_note(len),
+    )
 }
 
 /// What the piece that stands first comes to.
@@ -186,6 +190,8 @@ pub fn tokens(alloc: Global, bytes: &[u8]) -> Result<Tokens, LexFault>
     requires { length bytes.now ≤ 4194304 }
     ensures found { IfOk result (Lexes bytes.now) }
     ensures only { IfOk result (AreOnly bytes.now) }
+    ensures in_place { IfOk result (AreTokensOf bytes.now 0) }
+    ensures noted { IfOk result (λ tokens. are_noted false tokens ≡ true) }
     ensures fault { IfErr result (UnlessMemory (Stuck bytes.now)) }
     ensures only_fault { IfErr result (UnlessMemory (IsOnlyFault bytes.now)) }
 {

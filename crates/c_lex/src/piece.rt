@@ -107,7 +107,11 @@ fn escaped_at(more: &[u8]) -> Option<(u8, usize)>
 {
     let (second, rest) = more.split_first()?;
     let value = escape(*second)?;
-    if is_first(b'\'', rest) { Some((value, 4)) } else { None }
+    if is_first(b'\'', rest) {
+        Some((value, 4))
+    } else {
+        None
+    }
 }
 
 /// The value of a character constant after its opening quote, and the length of the constant.
@@ -244,13 +248,7 @@ fn symbol_at(in_note: bool, is_fresh: bool, first: u8, more: &[u8], bytes: &[u8]
 
 /// What stands first in these bytes, which are `first` and `more`.
 #[tactic(auto, unfolding(crate::specs::inner::Reading::piece_at))]
-pub(crate) fn piece_at(
-    in_note: bool,
-    is_fresh: bool,
-    first: u8,
-    more: &[u8],
-    bytes: &[u8],
-) -> Piece
+pub(crate) fn piece_at(in_note: bool, is_fresh: bool, first: u8, more: &[u8], bytes: &[u8]) -> Piece
     requires room { length bytes.now < 2 ^ 32 }
     requires parts { bytes.now ≡ first ∷ more.now }
     ensures value { result ≡ piece_at in_note is_fresh first more.now }

@@ -6,6 +6,7 @@ use std::alloc::Global;
 use std::test::Fail;
 
 const MOST: usize = 4194304;
+
 const NAME: TokenKind = TokenKind::Word(Word::Name);
 
 /// A token's kind, its first byte, the byte after it, and its line.
@@ -46,16 +47,8 @@ fn refuses(alloc: Global, text: &[u8], fault: LexFault) -> bool {
 }
 
 const TEXTS: [(&[u8], &[Row]); 35] = [
-    (
-        b"",
-        &[
-        ],
-    ),
-    (
-        b" \t\n\r\x0b\x0c",
-        &[
-        ],
-    ),
+    (b"", &[]),
+    (b" \t\n\r\x0b\x0c", &[]),
     (
         b"int x_1;\n_y",
         &[
@@ -65,69 +58,277 @@ const TEXTS: [(&[u8], &[Row]); 35] = [
             (NAME, 9, 11, 2),
         ],
     ),
-    (
-        b"Int intx",
-        &[
-            (NAME, 0, 3, 1),
-            (NAME, 4, 8, 1),
-        ],
-    ),
+    (b"Int intx", &[(NAME, 0, 3, 1), (NAME, 4, 8, 1)]),
     (
         b"0 7 00 017",
         &[
-            (TokenKind::Number(Number { value: 0, form: LiteralForm::Octal, unsigned: false, longs: 0 }), 0, 1, 1),
-            (TokenKind::Number(Number { value: 7, form: LiteralForm::Decimal, unsigned: false, longs: 0 }), 2, 3, 1),
-            (TokenKind::Number(Number { value: 0, form: LiteralForm::Octal, unsigned: false, longs: 0 }), 4, 6, 1),
-            (TokenKind::Number(Number { value: 15, form: LiteralForm::Octal, unsigned: false, longs: 0 }), 7, 10, 1),
+            (
+                TokenKind::Number(Number {
+                    value: 0,
+                    form: LiteralForm::Octal,
+                    unsigned: false,
+                    longs: 0,
+                }),
+                0,
+                1,
+                1,
+            ),
+            (
+                TokenKind::Number(Number {
+                    value: 7,
+                    form: LiteralForm::Decimal,
+                    unsigned: false,
+                    longs: 0,
+                }),
+                2,
+                3,
+                1,
+            ),
+            (
+                TokenKind::Number(Number {
+                    value: 0,
+                    form: LiteralForm::Octal,
+                    unsigned: false,
+                    longs: 0,
+                }),
+                4,
+                6,
+                1,
+            ),
+            (
+                TokenKind::Number(Number {
+                    value: 15,
+                    form: LiteralForm::Octal,
+                    unsigned: false,
+                    longs: 0,
+                }),
+                7,
+                10,
+                1,
+            ),
         ],
     ),
     (
         b"0x1F 0Xaf 0x0",
         &[
-            (TokenKind::Number(Number { value: 31, form: LiteralForm::Hexadecimal, unsigned: false, longs: 0 }), 0, 4, 1),
-            (TokenKind::Number(Number { value: 175, form: LiteralForm::Hexadecimal, unsigned: false, longs: 0 }), 5, 9, 1),
-            (TokenKind::Number(Number { value: 0, form: LiteralForm::Hexadecimal, unsigned: false, longs: 0 }), 10, 13, 1),
+            (
+                TokenKind::Number(Number {
+                    value: 31,
+                    form: LiteralForm::Hexadecimal,
+                    unsigned: false,
+                    longs: 0,
+                }),
+                0,
+                4,
+                1,
+            ),
+            (
+                TokenKind::Number(Number {
+                    value: 175,
+                    form: LiteralForm::Hexadecimal,
+                    unsigned: false,
+                    longs: 0,
+                }),
+                5,
+                9,
+                1,
+            ),
+            (
+                TokenKind::Number(Number {
+                    value: 0,
+                    form: LiteralForm::Hexadecimal,
+                    unsigned: false,
+                    longs: 0,
+                }),
+                10,
+                13,
+                1,
+            ),
         ],
     ),
     (
         b"1u 1U 1l 1L 1ll 1LL",
         &[
-            (TokenKind::Number(Number { value: 1, form: LiteralForm::Decimal, unsigned: true, longs: 0 }), 0, 2, 1),
-            (TokenKind::Number(Number { value: 1, form: LiteralForm::Decimal, unsigned: true, longs: 0 }), 3, 5, 1),
-            (TokenKind::Number(Number { value: 1, form: LiteralForm::Decimal, unsigned: false, longs: 1 }), 6, 8, 1),
-            (TokenKind::Number(Number { value: 1, form: LiteralForm::Decimal, unsigned: false, longs: 1 }), 9, 11, 1),
-            (TokenKind::Number(Number { value: 1, form: LiteralForm::Decimal, unsigned: false, longs: 2 }), 12, 15, 1),
-            (TokenKind::Number(Number { value: 1, form: LiteralForm::Decimal, unsigned: false, longs: 2 }), 16, 19, 1),
+            (
+                TokenKind::Number(Number {
+                    value: 1,
+                    form: LiteralForm::Decimal,
+                    unsigned: true,
+                    longs: 0,
+                }),
+                0,
+                2,
+                1,
+            ),
+            (
+                TokenKind::Number(Number {
+                    value: 1,
+                    form: LiteralForm::Decimal,
+                    unsigned: true,
+                    longs: 0,
+                }),
+                3,
+                5,
+                1,
+            ),
+            (
+                TokenKind::Number(Number {
+                    value: 1,
+                    form: LiteralForm::Decimal,
+                    unsigned: false,
+                    longs: 1,
+                }),
+                6,
+                8,
+                1,
+            ),
+            (
+                TokenKind::Number(Number {
+                    value: 1,
+                    form: LiteralForm::Decimal,
+                    unsigned: false,
+                    longs: 1,
+                }),
+                9,
+                11,
+                1,
+            ),
+            (
+                TokenKind::Number(Number {
+                    value: 1,
+                    form: LiteralForm::Decimal,
+                    unsigned: false,
+                    longs: 2,
+                }),
+                12,
+                15,
+                1,
+            ),
+            (
+                TokenKind::Number(Number {
+                    value: 1,
+                    form: LiteralForm::Decimal,
+                    unsigned: false,
+                    longs: 2,
+                }),
+                16,
+                19,
+                1,
+            ),
         ],
     ),
     (
         b"1ul 1Lu 1ull 1LLU 0xaLLu 01uL",
         &[
-            (TokenKind::Number(Number { value: 1, form: LiteralForm::Decimal, unsigned: true, longs: 1 }), 0, 3, 1),
-            (TokenKind::Number(Number { value: 1, form: LiteralForm::Decimal, unsigned: true, longs: 1 }), 4, 7, 1),
-            (TokenKind::Number(Number { value: 1, form: LiteralForm::Decimal, unsigned: true, longs: 2 }), 8, 12, 1),
-            (TokenKind::Number(Number { value: 1, form: LiteralForm::Decimal, unsigned: true, longs: 2 }), 13, 17, 1),
-            (TokenKind::Number(Number { value: 10, form: LiteralForm::Hexadecimal, unsigned: true, longs: 2 }), 18, 24, 1),
-            (TokenKind::Number(Number { value: 1, form: LiteralForm::Octal, unsigned: true, longs: 1 }), 25, 29, 1),
+            (
+                TokenKind::Number(Number {
+                    value: 1,
+                    form: LiteralForm::Decimal,
+                    unsigned: true,
+                    longs: 1,
+                }),
+                0,
+                3,
+                1,
+            ),
+            (
+                TokenKind::Number(Number {
+                    value: 1,
+                    form: LiteralForm::Decimal,
+                    unsigned: true,
+                    longs: 1,
+                }),
+                4,
+                7,
+                1,
+            ),
+            (
+                TokenKind::Number(Number {
+                    value: 1,
+                    form: LiteralForm::Decimal,
+                    unsigned: true,
+                    longs: 2,
+                }),
+                8,
+                12,
+                1,
+            ),
+            (
+                TokenKind::Number(Number {
+                    value: 1,
+                    form: LiteralForm::Decimal,
+                    unsigned: true,
+                    longs: 2,
+                }),
+                13,
+                17,
+                1,
+            ),
+            (
+                TokenKind::Number(Number {
+                    value: 10,
+                    form: LiteralForm::Hexadecimal,
+                    unsigned: true,
+                    longs: 2,
+                }),
+                18,
+                24,
+                1,
+            ),
+            (
+                TokenKind::Number(Number {
+                    value: 1,
+                    form: LiteralForm::Octal,
+                    unsigned: true,
+                    longs: 1,
+                }),
+                25,
+                29,
+                1,
+            ),
         ],
     ),
     (
         b"170141183460469231731687303715884105727",
-        &[
-            (TokenKind::Number(Number { value: 170141183460469231731687303715884105727, form: LiteralForm::Decimal, unsigned: false, longs: 0 }), 0, 39, 1),
-        ],
+        &[(
+            TokenKind::Number(Number {
+                value: 170141183460469231731687303715884105727,
+                form: LiteralForm::Decimal,
+                unsigned: false,
+                longs: 0,
+            }),
+            0,
+            39,
+            1,
+        )],
     ),
     (
         b"0x7fffffffffffffffffffffffffffffff",
-        &[
-            (TokenKind::Number(Number { value: 170141183460469231731687303715884105727, form: LiteralForm::Hexadecimal, unsigned: false, longs: 0 }), 0, 34, 1),
-        ],
+        &[(
+            TokenKind::Number(Number {
+                value: 170141183460469231731687303715884105727,
+                form: LiteralForm::Hexadecimal,
+                unsigned: false,
+                longs: 0,
+            }),
+            0,
+            34,
+            1,
+        )],
     ),
     (
         b"01777777777777777777777777777777777777777777",
-        &[
-            (TokenKind::Number(Number { value: 170141183460469231731687303715884105727, form: LiteralForm::Octal, unsigned: false, longs: 0 }), 0, 44, 1),
-        ],
+        &[(
+            TokenKind::Number(Number {
+                value: 170141183460469231731687303715884105727,
+                form: LiteralForm::Octal,
+                unsigned: false,
+                longs: 0,
+            }),
+            0,
+            44,
+            1,
+        )],
     ),
     (
         b"'a' '\"' ' ' '~'",
@@ -161,26 +362,13 @@ const TEXTS: [(&[u8], &[Row]); 35] = [
     ),
     (
         b"\"/*\" \"//\"",
-        &[
-            (TokenKind::Text, 0, 4, 1),
-            (TokenKind::Text, 5, 9, 1),
-        ],
+        &[(TokenKind::Text, 0, 4, 1), (TokenKind::Text, 5, 9, 1)],
     ),
     (
         b"a/* x\n*/b // c\nd",
-        &[
-            (NAME, 0, 1, 1),
-            (NAME, 8, 9, 2),
-            (NAME, 15, 16, 3),
-        ],
+        &[(NAME, 0, 1, 1), (NAME, 8, 9, 2), (NAME, 15, 16, 3)],
     ),
-    (
-        b"/**/a/***/b//",
-        &[
-            (NAME, 4, 5, 1),
-            (NAME, 10, 11, 1),
-        ],
-    ),
+    (b"/**/a/***/b//", &[(NAME, 4, 5, 1), (NAME, 10, 11, 1)]),
     (
         b"a/ *b",
         &[
@@ -224,23 +412,14 @@ const TEXTS: [(&[u8], &[Row]); 35] = [
             (TokenKind::Punct(Punct::Greater), 7, 8, 1),
         ],
     ),
-    (
-        b"# 1 \"f.c\" /*\nx",
-        &[
-            (NAME, 13, 14, 2),
-        ],
-    ),
+    (b"# 1 \"f.c\" /*\nx", &[(NAME, 13, 14, 2)]),
     (
         b" \t#12\n/* */#  3\n;",
-        &[
-            (TokenKind::Punct(Punct::Semicolon), 16, 17, 3),
-        ],
+        &[(TokenKind::Punct(Punct::Semicolon), 16, 17, 3)],
     ),
     (
         b"/*\n*/# 1\n;",
-        &[
-            (TokenKind::Punct(Punct::Semicolon), 9, 10, 3),
-        ],
+        &[(TokenKind::Punct(Punct::Semicolon), 9, 10, 3)],
     ),
     (
         b"a # ##\n#1",
@@ -252,17 +431,11 @@ const TEXTS: [(&[u8], &[Row]); 35] = [
     ),
     (
         b"/*@*/",
-        &[
-            (TokenKind::NoteFrom, 0, 3, 1),
-            (TokenKind::NoteTo, 3, 5, 1),
-        ],
+        &[(TokenKind::NoteFrom, 0, 3, 1), (TokenKind::NoteTo, 3, 5, 1)],
     ),
     (
         b"//@",
-        &[
-            (TokenKind::NoteFrom, 0, 3, 1),
-            (TokenKind::NoteTo, 3, 3, 1),
-        ],
+        &[(TokenKind::NoteFrom, 0, 3, 1), (TokenKind::NoteTo, 3, 3, 1)],
     ),
     (
         b"//@\nx",
@@ -307,11 +480,41 @@ const TEXTS: [(&[u8], &[Row]); 35] = [
         b"/*@1..2...3 .. .*/",
         &[
             (TokenKind::NoteFrom, 0, 3, 1),
-            (TokenKind::Number(Number { value: 1, form: LiteralForm::Decimal, unsigned: false, longs: 0 }), 3, 4, 1),
+            (
+                TokenKind::Number(Number {
+                    value: 1,
+                    form: LiteralForm::Decimal,
+                    unsigned: false,
+                    longs: 0,
+                }),
+                3,
+                4,
+                1,
+            ),
             (TokenKind::Punct(Punct::DotDot), 4, 6, 1),
-            (TokenKind::Number(Number { value: 2, form: LiteralForm::Decimal, unsigned: false, longs: 0 }), 6, 7, 1),
+            (
+                TokenKind::Number(Number {
+                    value: 2,
+                    form: LiteralForm::Decimal,
+                    unsigned: false,
+                    longs: 0,
+                }),
+                6,
+                7,
+                1,
+            ),
             (TokenKind::Punct(Punct::Ellipsis), 7, 10, 1),
-            (TokenKind::Number(Number { value: 3, form: LiteralForm::Decimal, unsigned: false, longs: 0 }), 10, 11, 1),
+            (
+                TokenKind::Number(Number {
+                    value: 3,
+                    form: LiteralForm::Decimal,
+                    unsigned: false,
+                    longs: 0,
+                }),
+                10,
+                11,
+                1,
+            ),
             (TokenKind::Punct(Punct::DotDot), 12, 14, 1),
             (TokenKind::Punct(Punct::Dot), 15, 16, 1),
             (TokenKind::NoteTo, 16, 18, 1),
@@ -345,7 +548,17 @@ const TEXTS: [(&[u8], &[Row]); 35] = [
         &[
             (TokenKind::NoteFrom, 0, 3, 1),
             (NAME, 4, 6, 1),
-            (TokenKind::Number(Number { value: 1, form: LiteralForm::Decimal, unsigned: false, longs: 0 }), 6, 7, 1),
+            (
+                TokenKind::Number(Number {
+                    value: 1,
+                    form: LiteralForm::Decimal,
+                    unsigned: false,
+                    longs: 0,
+                }),
+                6,
+                7,
+                1,
+            ),
             (NAME, 8, 9, 1),
             (TokenKind::Punct(Punct::Star), 9, 10, 1),
             (TokenKind::NoteTo, 10, 12, 1),
@@ -373,12 +586,24 @@ const REFUSALS: [(&[u8], LexFault); 54] = [
     (b"1.5", LexFault::BadByte(1)),
     (b"1..2", LexFault::BadByte(1)),
     (b"0x1u.", LexFault::BadByte(4)),
-    (b"x 999999999999999999999999999999999999999999a", LexFault::BadByte(44)),
+    (
+        b"x 999999999999999999999999999999999999999999a",
+        LexFault::BadByte(44),
+    ),
     (b"/*@1. */", LexFault::BadByte(4)),
     (b"/*@1.", LexFault::OpenComment(0)),
-    (b"170141183460469231731687303715884105728", LexFault::LiteralTooWide(0)),
-    (b" 0x80000000000000000000000000000000u", LexFault::LiteralTooWide(1)),
-    (b"02000000000000000000000000000000000000000000", LexFault::LiteralTooWide(0)),
+    (
+        b"170141183460469231731687303715884105728",
+        LexFault::LiteralTooWide(0),
+    ),
+    (
+        b" 0x80000000000000000000000000000000u",
+        LexFault::LiteralTooWide(1),
+    ),
+    (
+        b"02000000000000000000000000000000000000000000",
+        LexFault::LiteralTooWide(0),
+    ),
     (b"''", LexFault::BadByte(0)),
     (b"'ab'", LexFault::BadByte(0)),
     (b"'''", LexFault::BadByte(0)),
@@ -541,7 +766,11 @@ fn is_alone(alloc: Global, spelling: &[u8], kind: TokenKind) -> Result<bool, Fai
     }
     let len = spelling.len() as u32;
     let semicolon = TokenKind::Punct(Punct::Semicolon);
-    Ok(has(alloc, text.as_slice(), &[(semicolon, 0, 1, 1), (kind, 2, 2 + len, 1)])?)
+    Ok(has(
+        alloc,
+        text.as_slice(),
+        &[(semicolon, 0, 1, 1), (kind, 2, 2 + len, 1)],
+    )?)
 }
 
 #[test]
@@ -551,7 +780,11 @@ fn each_punctuator_and_keyword_is_a_token(rt: HostRuntime) -> Result<(), Fail> {
         assert!(rt; holds);
     }
     for (spelling, keyword) in &KEYWORDS {
-        let holds = is_alone(rt.alloc(), spelling, TokenKind::Word(Word::Keyword(*keyword)))?;
+        let holds = is_alone(
+            rt.alloc(),
+            spelling,
+            TokenKind::Word(Word::Keyword(*keyword)),
+        )?;
         assert!(rt; holds);
     }
     Ok(())

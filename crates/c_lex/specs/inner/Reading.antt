@@ -1,7 +1,7 @@
 -- The code's side: how the piece that stands first is found, in the order in which the code looks.
-use Rattle.std.specs.Prelude.{◌≡◌, ◌+◌, ◌<◌, ◌≤◌, ◌*◌, ◌-◌, ◌^◌, ◌==◌, ◌&&◌, ◌||◌, ◌∷◌, [], ℕ, List, Bool, Option, Some, None, true, false, codes, not, nat_le, nat_lt, length, take, drop, if◌then◌else◌}
+use Rattle.std.specs.Prelude.{◌≡◌, ◌+◌, ◌≤◌, ◌^◌, ◌==◌, ◌&&◌, ◌||◌, ◌∷◌, [], ℕ, List, Bool, Option, Some, None, false, not, nat_le, nat_lt, length, take, drop, if◌then◌else◌}
 use Rattle.std.specs.Option.{option_map}
-use Rattle.std.specs.List.{prefix_len, list_all}
+use Rattle.std.specs.List.{prefix_len}
 use Rattle.std.specs.Borrow.{Bor}
 use Rattle.std.specs.Char.{is_ascii_digit}
 use Rattle.fc_base.specs.declared.syntax.LiteralForm.{LiteralForm}
@@ -92,7 +92,7 @@ unfoldable pub number_of : Bool → List ℕ → Shape → Piece
 number_of note bytes shape =
     if spoils note (drop shape.len bytes) then Q.Bad shape.len else
     either (fitting shape.form 0 (take shape.digits (drop (prefix_of shape.form) bytes)))
-        (λ value. Q.Token (K.Number (number_with shape value)) shape.len) Q.Wide
+    (λ value. Q.Token (K.Number (number_with shape value)) shape.len) Q.Wide
 
 unfoldable pub number_at : Bool → List ℕ → Piece
 number_at note bytes = either (shape_of bytes) (number_of note bytes) (Q.Bad 0)

@@ -1,6 +1,4 @@
-use Rattle.std.proofs.Common.{◌≡◌, ◌+◌, ◌≤◌, drop}
-use Rattle.std.specs.List.{prefix_len}
-use Rattle.c_lex.specs.Spellings.{goes_on}
+use Rattle.std.proofs.Common.{◌≡◌, ◌+◌, drop}
 use Rattle.c_lex.specs.inner.Reading.{line_len}
 use Rattle.c_lex.proofs.bytes.line_len.Given as goal
 

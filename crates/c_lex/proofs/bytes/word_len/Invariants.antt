@@ -1,7 +1,6 @@
-use Rattle.std.proofs.Common.{◌≡◌, ◌+◌, ◌≤◌, drop}
+use Rattle.std.proofs.Common.{◌≡◌, ◌+◌, drop}
 use Rattle.std.specs.List.{prefix_len}
 use Rattle.c_lex.specs.Spellings.{goes_on}
-use Rattle.c_lex.specs.inner.Reading.{line_len}
 use Rattle.c_lex.proofs.bytes.word_len.Given as goal
 
 abbrev pub invariant-loop-byte : goal.invariant-loop-byte

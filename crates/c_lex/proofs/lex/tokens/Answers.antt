@@ -1,9 +1,10 @@
-use Rattle.std.proofs.Common.{◌≡◌, ◌<◌, ◌++◌, ◌∷◌, [], List, ℕ, Some, None, subst, sym}
+use Rattle.std.proofs.Common.{◌≡◌, List, Some, None, subst, sym}
 use Rattle.c_lex.specs.declared.token.Token.{Token}
 use Rattle.c_lex.specs.Tokens.{Spot, Stuck, IsOnlyFault}
-use Rattle.c_lex.specs.inner.Reading.{AtEnd, To, Fault, spot_of, step_of}
-use Rattle.c_lex.proofs.Left.{left, goes-left}
+use Rattle.c_lex.specs.inner.Reading.{To, spot_of, step_of}
+use Rattle.c_lex.proofs.Left.{goes-left}
 use Rattle.c_lex.proofs.OneReading.{Found, are_only, is_only_fault, unless, goes, found-gap, found-token, found-end, found-fault}
+use Rattle.c_lex.proofs.TokenFacts.{in_place, noted}
 use Rattle.c_lex.proofs.lex.tokens.Goals as goal
 
 pub returns-in-End-clause-found : goal.returns-in-End-clause-found
@@ -11,6 +12,12 @@ returns-in-End-clause-found c = found-end _ (spot_of c.lexing.place) _ c.in-End.
 
 pub returns-in-End-clause-only : goal.returns-in-End-clause-only
 returns-in-End-clause-only c = are_only _ _ (found-end _ (spot_of c.lexing.place) _ c.in-End.ensures.value c.lexing.invariant.found)
+
+pub returns-in-End-clause-in_place : goal.returns-in-End-clause-in_place
+returns-in-End-clause-in_place c = in_place _ _ (found-end _ (spot_of c.lexing.place) _ c.in-End.ensures.value c.lexing.invariant.found)
+
+pub returns-in-End-clause-noted : goal.returns-in-End-clause-noted
+returns-in-End-clause-noted c = noted _ _ (found-end _ (spot_of c.lexing.place) _ c.in-End.ensures.value c.lexing.invariant.found)
 
 pub lexing-smaller-in-Gap : goal.lexing-smaller-in-Gap
 lexing-smaller-in-Gap c =
