@@ -48,7 +48,8 @@ number_of-takes note bytes s text rest h = spoiled (spoils note (drop s.len byte
         → Counted note bytes (either o (λ v. Q.Token (K.Number (number_with s v)) s.len) Q.Wide)
     fits e None f = (number_with s (value_of s.form 0 digits), text, rest, h.split.whole, h.number, subst (λ (x : List ℕ). spoils note x ≡ false) same e, f)
     fits e (Some v) f =
-        (number_with s (value_of s.form 0 digits), text, rest, h.split, ap (λ (x : ℕ). let k : TokenKind = K.Number (number_with s x) in k) f.0, h.number, subst (λ (x : List ℕ). spoils note x ≡ false) same e, f.1)
+        let kind : ℕ → TokenKind = λ v. K.Number (number_with s v) in
+        (number_with s (value_of s.form 0 digits), text, rest, h.split, ap kind f.0, h.number, subst (λ (x : List ℕ). spoils note x ≡ false) same e, f.1)
 
     spoiled : (b : Bool) → spoils note (drop s.len bytes) ≡ b
         → Counted note bytes (if b then Q.Bad s.len else either (fitting s.form 0 digits) (λ v. Q.Token (K.Number (number_with s v)) s.len) Q.Wide)
@@ -105,7 +106,8 @@ pub spoiled-again : (note : Bool) (v : Number) (text rest : List ℕ) → IsNumb
 unfolding number_of shape_for
 spoiled-again note v text rest h e = number_of-shape note v text rest h ∙ rw (drop-append_seam text rest, e) refl
 
-pub number-again : (note : Bool) (v : Number) (text rest : List ℕ) → IsNumber v text rest → spoils note rest ≡ false → v.value < 2 ^ 127 → number_at note (text ++ rest) ≡ Q.Token (K.Number v) (length text)
+pub number-again : (note : Bool) (v : Number) (text rest : List ℕ) → IsNumber v text rest → spoils note rest ≡ false → v.value < 2 ^ 127
+    → number_at note (text ++ rest) ≡ Q.Token (K.Number v) (length text)
 unfolding number_of shape_for
 number-again note v text rest h e l =
     let f = fitting-again v.form h.digits (omega (arith, h.value)) in

@@ -91,7 +91,8 @@ one_row note (r ∷ rows) t v u o (inr h) (inl k) =
     let f = not_begun note rows r.0 t v (both (list_all (λ q. not (begins r.0 q.0)) rows) (is_ordered rows) o).0 h in
     let b : begins r.0 t ≡ true = subst (λ (x : List ℕ). begins x t ≡ true) (sym k.1) (rw (append-nil t) at (begins-append t [])) in absurd (cc)
 
-pub first_row-again : {A : Type 0} (note : Bool) (rows : List (Row A)) (bytes text : List ℕ) (v : A) → is_ordered rows ≡ true → IsLongest note rows text v bytes → first_row note rows bytes ≡ Some (v, length text)
+pub first_row-again : {A : Type 0} (note : Bool) (rows : List (Row A)) (bytes text : List ℕ) (v : A) → is_ordered rows ≡ true → IsLongest note rows text v bytes
+    → first_row note rows bytes ≡ Some (v, length text)
 first_row-again {A} note rows bytes text v o h = step (first_row note rows bytes) refl
   where
     step : (r : Option (A × ℕ)) → first_row note rows bytes ≡ r → r ≡ Some (v, length text)

@@ -103,10 +103,18 @@ shape_of-takes bytes s d e =
 
 pub shape_of-some : (bytes : List ℕ) → shape_of bytes ≡ None → ⊥
 unfolding shape_of
-shape_of-some bytes e =
-    step (first_row false suffixes (drop (prefix_of (form_of bytes) + digits_len (form_of bytes) (drop (prefix_of (form_of bytes)) bytes)) bytes)) refl e
+shape_of-some bytes e = step (first_row false suffixes end) refl e
   where
-    step : (o : Option ((Bool × ℕ) × ℕ)) → first_row false suffixes (drop (prefix_of (form_of bytes) + digits_len (form_of bytes) (drop (prefix_of (form_of bytes)) bytes)) bytes) ≡ o
-        → ◌≡◌ {A = Option Shape} (◌>>=◌ o (λ row. Some (record { form = form_of bytes; digits = digits_len (form_of bytes) (drop (prefix_of (form_of bytes)) bytes); unsigned = row.0.0; longs = row.0.1; len = prefix_of (form_of bytes) + digits_len (form_of bytes) (drop (prefix_of (form_of bytes)) bytes) + row.1 }))) None → ⊥
+    digits : ℕ
+    digits = digits_len (form_of bytes) (drop (prefix_of (form_of bytes)) bytes)
+
+    end : List ℕ
+    end = drop (prefix_of (form_of bytes) + digits) bytes
+
+    shape : (Bool × ℕ) × ℕ → Shape
+    shape row =
+        record { form = form_of bytes; digits = digits; unsigned = row.0.0; longs = row.0.1; len = prefix_of (form_of bytes) + digits + row.1 }
+
+    step : (o : Option ((Bool × ℕ) × ℕ)) → first_row false suffixes end ≡ o → ◌≡◌ {A = Option Shape} (◌>>=◌ o (λ row. Some (shape row))) None → ⊥
     step None o h = first_row-none false suffixes _ [] (false, 0) o has_empty refl
     step (Some r) o h = cc

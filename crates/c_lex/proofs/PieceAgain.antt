@@ -70,7 +70,8 @@ block-open (b ∷ body) h = step (b == 64)
 line_is : (body rest : List ℕ) → list_all is_in_line body ≡ true → is_line_end rest ≡ true → line_len (body ++ rest) ≡ length body
 line_is body rest a e = run_len is_in_line body rest a (not_false (begins_with is_in_line rest) e)
 
-line-gap : (body rest : List ℕ) → begins_with (λ b. b == 64) (body ++ rest) ≡ false → list_all is_in_line body ≡ true → is_line_end rest ≡ true → line_at (body ++ rest) ≡ Q.Gap (length body + 2)
+line-gap : (body rest : List ℕ) → begins_with (λ b. b == 64) (body ++ rest) ≡ false → list_all is_in_line body ≡ true → is_line_end rest ≡ true
+    → line_at (body ++ rest) ≡ Q.Gap (length body + 2)
 unfolding line_at
 line-gap body rest h a e = rw (h, line_is body rest a e) refl
 
@@ -78,7 +79,8 @@ line-note : (inside after : List ℕ) → list_all is_in_line inside ≡ true �
 unfolding line_at
 line-note inside after a e = rw (line_is inside after a e) refl
 
-marker-gap : (note : Bool) (body rest : List ℕ) → is_marker note (body ++ rest) ≡ true → list_all is_in_line body ≡ true → is_line_end rest ≡ true → marker_at note (body ++ rest) ≡ Q.Gap (length body + 1)
+marker-gap : (note : Bool) (body rest : List ℕ) → is_marker note (body ++ rest) ≡ true → list_all is_in_line body ≡ true → is_line_end rest ≡ true
+    → marker_at note (body ++ rest) ≡ Q.Gap (length body + 1)
 unfolding marker_at
 marker-gap note body rest m a e = rw (m, line_is body rest a e) refl
 
@@ -161,7 +163,8 @@ word_parts note b bs rest h =
     some true e = grind (arith, nat_tests)
     some false e = refl
 
-word_at-again : (note : Bool) (b : ℕ) (bs rest : List ℕ) → is_word note (b ∷ bs) rest ≡ true → length (b ∷ bs) ≤ 256 → word_at b (bs ++ rest) ≡ Q.Token (K.Word (word_of (b ∷ bs))) (length (b ∷ bs))
+word_at-again : (note : Bool) (b : ℕ) (bs rest : List ℕ) → is_word note (b ∷ bs) rest ≡ true → length (b ∷ bs) ≤ 256
+    → word_at b (bs ++ rest) ≡ Q.Token (K.Word (word_of (b ∷ bs))) (length (b ∷ bs))
 unfolding word_at
 word_at-again note b bs rest h l =
     let p = word_parts note b bs rest h in

@@ -92,5 +92,6 @@ begins-common (x ∷ a) (z ∷ b) (y ∷ ys) p q l =
 
 pub begins-same : (a b bytes : List ℕ) → begins a bytes ≡ true → begins b bytes ≡ true → length a ≡ length b → a ≡ b
 begins-same a b bytes p q l =
-    let front : (t : List ℕ) → begins t bytes ≡ true → take (length t) bytes ≡ t = λ t h. ap (λ (x : List ℕ). take (length t) x) (begins-split t bytes h) ∙ take-append_seam t (drop (length t) bytes) in
+    let front : (t : List ℕ) → begins t bytes ≡ true → take (length t) bytes ≡ t = λ t h. ap (λ (x : List ℕ). take (length t) x) (begins-split t bytes h)
+    ∙ take-append_seam t (drop (length t) bytes) in
     sym (front a p) ∙ ap (λ (n : ℕ). take n bytes) l ∙ front b q

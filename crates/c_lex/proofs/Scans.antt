@@ -72,7 +72,9 @@ pub inside_len-none : (bytes : List ℕ) → inside_len bytes ≡ None → has_n
 inside_len-none [] e = refl
 inside_len-none (b ∷ bs) e =
     let s = if_none (b == 42 && begins_with (λ c. c == 47) bs) 0 (option_map (λ n. 1 + n) (inside_len bs)) e in
-    both_are (not (b == 42 && begins_with (λ c. c == 47) bs)) (has_no_close bs) (not_true (b == 42 && begins_with (λ c. c == 47) bs) s.0) (inside_len-none bs (map_none (λ n. 1 + n) (inside_len bs) s.1))
+    both_are (not (b == 42 && begins_with (λ c. c == 47) bs)) (has_no_close bs)
+    (not_true (b == 42 && begins_with (λ c. c == 47) bs) s.0)
+    (inside_len-none bs (map_none (λ n. 1 + n) (inside_len bs) s.1))
 
 pub inside_len-again : (body rest : List ℕ) → has_no_close (body ++ 42 ∷ []) ≡ true → inside_len (body ++ 42 ∷ 47 ∷ rest) ≡ Some (length body)
 inside_len-again [] rest h = refl

@@ -42,7 +42,8 @@ back text rest bytes w = ap (λ (x : List ℕ). drop (length text) x) w ∙ drop
 gap_move : (s : Spot) (text rest : List ℕ) → s.bytes ≡ text ++ rest → move_of s (Q.Gap (length text)) ≡ To None (past s text rest (s.fresh || nat_lt 0 (line_ends text)))
 gap_move s text rest w = rw (front text rest s.bytes w, back text rest s.bytes w) refl
 
-token_move : (s : Spot) (kind : TokenKind) (text rest : List ℕ) → s.bytes ≡ text ++ rest → move_of s (Q.Token kind (length text)) ≡ To (Some (token_at s kind (length text))) (past s text rest false)
+token_move : (s : Spot) (kind : TokenKind) (text rest : List ℕ) → s.bytes ≡ text ++ rest
+    → move_of s (Q.Token kind (length text)) ≡ To (Some (token_at s kind (length text))) (past s text rest false)
 token_move s kind text rest w = rw (front text rest s.bytes w, back text rest s.bytes w) refl
 
 note_after : (bytes inside after : List ℕ) → IsNote bytes inside after → drop 3 bytes ≡ inside ++ after

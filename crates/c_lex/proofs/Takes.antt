@@ -132,7 +132,8 @@ char_at-takes note fresh (c ∷ more) = escaped (c == 92) refl
     Result : Option (ℕ × ℕ) → Type 0
     Result o = Reads note fresh (39 ∷ c ∷ more) (either o (λ c. Q.Token (K.Char c.0) c.1) (Q.Bad 0))
 
-    plain : (t : Bool) → (is_plain c && begins_with (λ b. b == 39) more) ≡ t → Reads note fresh (39 ∷ c ∷ more) (either (if◌then◌else◌ {A = Option (ℕ × ℕ)} t (Some (c, 3)) None) (λ c. Q.Token (K.Char c.0) c.1) (Q.Bad 0))
+    plain : (t : Bool) → (is_plain c && begins_with (λ b. b == 39) more) ≡ t
+        → Reads note fresh (39 ∷ c ∷ more) (either (if◌then◌else◌ {A = Option (ℕ × ℕ)} t (Some (c, 3)) None) (λ c. Q.Token (K.Char c.0) c.1) (Q.Bad 0))
     plain false e = inl refl
     plain true e =
         let s = both (is_plain c) (begins_with (λ b. b == 39) more) e in
@@ -155,7 +156,8 @@ char_at-takes note fresh (c ∷ more) = escaped (c == 92) refl
     second p (b ∷ rest) q = value b rest p q (escape b) refl
 
     escaped : (t : Bool) → (c == 92) ≡ t
-        → Reads note fresh (39 ∷ c ∷ more) (either (if t then escaped_at more else (if is_plain c && begins_with (λ b. b == 39) more then Some (c, 3) else None)) (λ c. Q.Token (K.Char c.0) c.1) (Q.Bad 0))
+        → Reads note fresh (39 ∷ c ∷ more)
+        (either (if t then escaped_at more else (if is_plain c && begins_with (λ b. b == 39) more then Some (c, 3) else None)) (λ c. Q.Token (K.Char c.0) c.1) (Q.Bad 0))
     escaped true e = second (byte_is c 92 e) more refl
     escaped false e = plain (is_plain c && begins_with (λ b. b == 39) more) refl
 
@@ -316,6 +318,12 @@ symbol_at-takes : (note fresh : Bool) (b : ℕ) (more : List ℕ) → Reads note
 unfolding symbol_at
 symbol_at-takes note fresh b more = quote (b == 39) refl
   where
+    hash : Piece
+    hash = if b == 35 && fresh then marker_at note more else punct_at note (b ∷ more)
+
+    slashed : Piece
+    slashed = if b == 47 && not note then slash_at (b ∷ more) more else hash
+
     other : (b == 47 && not note) ≡ false → (c : Bool) → (b == 35 && fresh) ≡ c → Reads note fresh (b ∷ more) (if c then marker_at note more else punct_at note (b ∷ more))
     other s true e =
         let t = both (b == 35) fresh e in
@@ -325,7 +333,7 @@ symbol_at-takes note fresh b more = quote (b == 39) refl
         punct_at-takes note fresh (b ∷ more) (no_other note fresh (b == 47) (b == 35) (begins_with (λ c. c == 42) more) (begins_with (λ c. c == 47) more) s e)
 
     slash : (c : Bool) → (b == 47 && not note) ≡ c
-        → Reads note fresh (b ∷ more) (if c then slash_at (b ∷ more) more else (if b == 35 && fresh then marker_at note more else punct_at note (b ∷ more)))
+        → Reads note fresh (b ∷ more) (if c then slash_at (b ∷ more) more else hash)
     slash true e =
         let t = both (b == 47) (not note) e in
         subst (λ (x : ℕ). Reads note fresh (x ∷ more) (slash_at (x ∷ more) more)) (sym (byte_is b 47 t.0))
@@ -333,12 +341,12 @@ symbol_at-takes note fresh b more = quote (b == 39) refl
     slash false e = other e (b == 35 && fresh) refl
 
     double : (c : Bool) → (b == 34) ≡ c
-        → Reads note fresh (b ∷ more) (if c then text_at more else (if b == 47 && not note then slash_at (b ∷ more) more else (if b == 35 && fresh then marker_at note more else punct_at note (b ∷ more))))
+        → Reads note fresh (b ∷ more) (if c then text_at more else slashed)
     double true e = subst (λ (x : ℕ). Reads note fresh (x ∷ more) (text_at more)) (sym (byte_is b 34 e)) (text_at-takes note fresh more)
     double false e = slash (b == 47 && not note) refl
 
     quote : (c : Bool) → (b == 39) ≡ c
-        → Reads note fresh (b ∷ more) (if c then char_at more else (if b == 34 then text_at more else (if b == 47 && not note then slash_at (b ∷ more) more else (if b == 35 && fresh then marker_at note more else punct_at note (b ∷ more)))))
+        → Reads note fresh (b ∷ more) (if c then char_at more else (if b == 34 then text_at more else slashed))
     quote true e = subst (λ (x : ℕ). Reads note fresh (x ∷ more) (char_at more)) (sym (byte_is b 39 e)) (char_at-takes note fresh more)
     quote false e = double (b == 34) refl
 

@@ -111,7 +111,8 @@ a_token : (all : List ℕ) (p : Option Token) (at to : ℕ) (u : Token) → p �
     → (t : Token) → p ≡ Some t → IsTokenOf all t × (t.span.from ≡ at) × (t.span.to ≡ to)
 a_token all p at to u e h f g t i = subst (λ (x : Token). IsTokenOf all x × (x.span.from ≡ at) × (x.span.to ≡ to)) (some_one u t (sym e ∙ i)) (h, f, g)
 
-opener : (bytes inside after : List ℕ) → IsNote bytes inside after → (text : List ℕ) × (bytes ≡ text ++ (inside ++ after)) × (length text ≡ 3) × IsTextOf K.NoteFrom text × (line_ends text ≡ 0)
+opener : (bytes inside after : List ℕ) → IsNote bytes inside after
+    → (text : List ℕ) × (bytes ≡ text ++ (inside ++ after)) × (length text ≡ 3) × IsTextOf K.NoteFrom text × (line_ends text ≡ 0)
 opener bytes inside after (inl h) = (47 ∷ 42 ∷ 64 ∷ [], h.1, refl, inl refl, refl)
 opener bytes inside after (inr h) = (47 ∷ 47 ∷ 64 ∷ [], h.0, refl, inr refl, refl)
 

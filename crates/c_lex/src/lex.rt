@@ -4,7 +4,7 @@ ghost use Rattle.std.specs.Prelude.{◌≡◌, ◌+◌, ◌≤◌, ◌<◌, ◌|
 ghost use Rattle.c_lex.specs.Bytes.{line_ends};
 ghost use Rattle.c_lex.specs.Facts.{AreTokensOf, are_noted};
 ghost use Rattle.c_lex.specs.Tokens.{Lexes, AreOnly, Stuck, IsOnlyFault, UnlessMemory, past_note, in_note, token_at, close_len};
-ghost use Rattle.c_lex.specs.inner.Reading.{spot_of, seen, end_of, move_of, step_of, IsRoomy, GoesOn, IsPast, IsWithin};
+ghost use Rattle.c_lex.specs.inner.Reading.{spot_of, seen, end_of, move_of, step_of, IsRoomy, GoesOn, IsPast, IsFreshPast, IsNotePlace, IsWithin};
 
 use crate::bytes::{begins, line_ends};
 use crate::fault::LexFault;
@@ -73,7 +73,7 @@ impl<'a> Place<'a> {
     /// Whether only blanks stand on the line before the place after so many blank bytes.
     fn is_fresh_past(self, len: usize) -> bool
         requires { len ≤ length self.bytes.now }
-        ensures { result ≡ (self.entry.is_fresh || nat_lt 0 (line_ends (take len self.entry.bytes.now))) }
+        ensures { IsFreshPast self.entry len result }
     {
         let (text, _) = self.bytes.split_at(len);
         self.is_fresh || 0 < line_ends(text)
@@ -83,7 +83,7 @@ impl<'a> Place<'a> {
     fn in_note(self, len: usize) -> Place<'a>
         requires room { IsRoomy self }
         requires within { len + 3 ≤ length self.bytes.now }
-        ensures value { spot_of result ≡ in_note (spot_of self.entry) (take len (drop 3 self.entry.bytes.now)) (drop len (drop 3 self.entry.bytes.now)) }
+        ensures value { IsNotePlace self.entry len (spot_of result) }
         ensures room { IsRoomy result }
     {
         let (_, rest) = self.bytes.split_at(3);

@@ -2,7 +2,7 @@
 
 ghost use Rattle.std.specs.Prelude.{◌≡◌, ◌+◌, ◌≤◌, ◌<◌, IfSome, length, drop};
 ghost use Rattle.c_lex.specs.Spellings.{digit, form_of, prefix_of, spoils};
-ghost use Rattle.c_lex.specs.inner.Reading.{fitting, fitting_digit, shape_of, number_of, number_at, IsWithin};
+ghost use Rattle.c_lex.specs.inner.Reading.{fitting, fitting_digit, shape_of, number_of, number_at, IsWithin, IsShapeWithin};
 
 use crate::bytes::{begins, digits_len, is_first, is_hexadecimal, is_word_first};
 use crate::piece::{Piece, Shape};
@@ -95,7 +95,7 @@ fn prefix_len(form: LiteralForm) -> usize
 #[tactic(auto, unfolding(crate::specs::inner::Reading::shape_of, crate::specs::Spellings::suffixes))]
 fn shape_of(bytes: &[u8]) -> Option<Shape>
     ensures value { result ≡ shape_of bytes.now }
-    ensures within { IfSome result (λ s. (prefix_of s.form + s.digits ≤ s.len) × (s.len ≤ length bytes.now)) }
+    ensures within { IfSome result (IsShapeWithin (length bytes.now)) }
 {
     let form = form_of(bytes);
     let prefix = prefix_len(form);
@@ -122,7 +122,7 @@ fn spoils(in_note: bool, rest: &[u8]) -> bool
 /// The constant of this shape, if it may end there and is below the limit.
 #[tactic(auto, unfolding(crate::specs::inner::Reading::number_of))]
 fn number_of(in_note: bool, bytes: &[u8], shape: Shape) -> Piece
-    requires { (prefix_of shape.form + shape.digits ≤ shape.len) × (shape.len ≤ length bytes.now) }
+    requires { IsShapeWithin (length bytes.now) shape }
     ensures value { result ≡ number_of in_note bytes.now shape }
     ensures within { IsWithin (length bytes.now) result }
 {

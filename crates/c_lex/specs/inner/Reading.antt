@@ -85,6 +85,9 @@ abbrev pub fitting : LiteralForm → ℕ → List ℕ → Option ℕ
 fitting form n [] = Some n
 fitting form n (b ∷ bs) = either (fitting_digit form n b) (λ m. fitting form m bs) None
 
+abbrev pub IsShapeWithin : ℕ → Shape → Type 0
+IsShapeWithin n s = (prefix_of s.form + s.digits ≤ s.len) × (s.len ≤ n)
+
 abbrev pub number_with : Shape → ℕ → Number
 number_with shape value = record { value = value; form = shape.form; unsigned = shape.unsigned; longs = shape.longs }
 
@@ -211,6 +214,12 @@ seen (S.Stuck f) = Fault f
 pub record IsRoomy (p : Place) : Type 0 where
   pub within : p.at + length p.bytes.now + length p.after.now ≤ 4194304
   pub lines : p.line ≤ p.at + 1
+
+abbrev pub IsFreshPast : Place → ℕ → Bool → Type 0
+IsFreshPast p n fresh = fresh ≡ (p.is_fresh || nat_lt 0 (line_ends (take n p.bytes.now)))
+
+abbrev pub IsNotePlace : Place → ℕ → Spot → Type 0
+IsNotePlace p n s = s ≡ in_note (spot_of p) (take n (drop 3 p.bytes.now)) (drop n (drop 3 p.bytes.now))
 
 abbrev pub IsPast : Place → ℕ → Bool → Spot → Type 0
 IsPast p n fresh s = s ≡ past (spot_of p) (take n p.bytes.now) (drop n p.bytes.now) fresh
