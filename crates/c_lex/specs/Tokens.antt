@@ -1,8 +1,13 @@
 -- The tokens of a text, and why a text has none (C11 6.4; ACSL manual, lexical rules).
 --
 -- Main definitions: `Lexes bytes tokens`, the bytes have these tokens; `Stuck bytes fault`, they have none,
--- and this is why. A text is read from left to right, each time by one `piece`: a blank, a comment, a line
--- marker or a token. A `Spot` is a place between two pieces.
+-- and this is why.
+--
+-- note    a comment that begins with `@`, an annotation; its bytes are read for tokens too
+-- gap     what stands between tokens: a blank byte, a comment that is no note, a line marker
+-- piece   a gap (None) or a token (Some); a text is read from left to right, piece by piece
+-- spot    a place between two pieces
+-- fresh   only gaps stand before the spot on its line
 use Rattle.std.specs.Prelude.{◌≡◌, ◌⊎◌, ◌+◌, ◌<◌, ◌≤◌, ◌≢◌, ◌^◌, ◌==◌, ◌&&◌, ◌||◌, ◌∷◌, ◌++◌, [], ℕ, List, Bool, true, false, Option, Some, None, codes, not, nat_lt, length, drop, if◌then◌else◌}
 use Rattle.std.specs.List.{list_all}
 use Rattle.std.specs.Char.{is_ascii_digit}
@@ -15,7 +20,7 @@ use Rattle.c_lex.specs.declared.token.TokenKind.TheVariants as K
 use Rattle.c_lex.specs.Bytes.{begins_with, begins, is_blank, is_in_line, line_ends}
 use Rattle.c_lex.specs.Spellings.{puncts, IsLongest, is_word, word_of, IsNumber, spoils, IsChar, IsText}
 
--- a place in the text: its offset and line; whether only blanks stand before it on its line; whether it is
+-- a place in the text: its offset and line; whether only gaps stand before it on its line; whether it is
 -- in a note; the bytes from there to the end of the note or of the text; those after the note
 pub record Spot : Type 0 where
   pub at : ℕ

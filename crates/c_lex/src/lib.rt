@@ -14,4 +14,4 @@ mod token;
 
 pub use fault::LexFault;
 pub use lex::tokens;
-pub use token::{Keyword, Number, Punct, Token, TokenKind, Tokens, Word};
+pub use token::{Keyword, Number, Punct, Token, TokenKind, Tokens, Word, tokens_are_in_place};

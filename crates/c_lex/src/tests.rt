@@ -5,7 +5,7 @@ mod spellings;
 use self::spellings::{KEYWORDS, PUNCTS};
 use crate::{Keyword, LexFault, Number, Punct, Token, TokenKind, Word, tokens};
 use fc_base::{Line, LiteralForm, Span};
-use std::alloc::Global;
+use std::alloc::{AllocError, Global};
 use std::test::Fail;
 
 const MOST: usize = 4194304;
@@ -37,6 +37,18 @@ fn has(alloc: Global, text: &[u8], rows: &[Row]) -> Result<bool, LexFault> {
         }
     }
     Ok(true)
+}
+
+/// Whether the first token of the text is these bytes.
+fn begins_so(alloc: Global, text: &[u8], wanted: &[u8]) -> Result<bool, LexFault> {
+    if text.len() > MOST {
+        return Ok(false);
+    }
+    let found = tokens(alloc, text)?;
+    match found.as_slice().split_first() {
+        Some((token, _)) => Ok(token.text(text) == wanted),
+        None => Ok(false),
+    }
 }
 
 fn refuses(alloc: Global, text: &[u8], fault: LexFault) -> bool {
@@ -644,6 +656,16 @@ fn texts_have_these_tokens(rt: HostRuntime) -> Result<(), Fail> {
         let holds = has(rt.alloc(), text, rows)?;
         assert!(rt; holds);
     }
+    Ok(())
+}
+
+#[test]
+fn a_token_has_its_bytes(rt: HostRuntime) -> Result<(), Fail> {
+    let holds = begins_so(rt.alloc(), b" /* */ 0x1Fu;", b"0x1Fu")?;
+    assert!(rt; holds);
+    let holds = begins_so(rt.alloc(), b"\n\"a\\\"b\"c", b"\"a\\\"b\"")?;
+    assert!(rt; holds);
+    assert!(rt; LexFault::from(AllocError) == LexFault::Memory);
     Ok(())
 }
 

@@ -1,5 +1,9 @@
 //! Tokens of C and of its annotations.
 
+ghost use Rattle.std.specs.Prelude.{◌≡◌, ◌≤◌, length, true, false};
+ghost use Rattle.c_lex.specs.Facts.{text_of, AreTokensOf, are_noted};
+ghost use Rattle.c_lex.specs.Tokens.{Lexes};
+
 use fc_base::{Line, LiteralForm, Span};
 use sqlite_items::Items;
 
@@ -229,3 +233,21 @@ pub enum Punct {
     /// `..`, in notes
     DotDot,
 }
+
+impl Token {
+    /// The bytes of a token of this text.
+    pub fn text(self, bytes: &[u8]) -> &[u8]
+        requires in_order { self.span.from ≤ self.span.to }
+        requires within { self.span.to ≤ length bytes.now }
+        ensures { result.now ≡ text_of bytes.now self }
+    {
+        &bytes[self.span.from as usize..self.span.to as usize]
+    }
+}
+
+/// Where the tokens of a text stand. The function does nothing: its contract is the law.
+pub fn tokens_are_in_place(bytes: &[u8], tokens: &[Token])
+    requires { Lexes bytes.now tokens.now }
+    ensures in_place { AreTokensOf bytes.now 0 tokens.now }
+    ensures noted { are_noted false tokens.now ≡ true }
+{}

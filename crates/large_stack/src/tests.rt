@@ -17,7 +17,7 @@ enum Chain {
     Link(Box<Chain>),
 }
 
-fn chain(alloc: Global, links: u32) -> Result<Chain, AllocError> {
+fn linked(alloc: Global, links: u32) -> Result<Chain, AllocError> {
     let mut chain = Chain::End;
     for _ in 0..links {
         chain = Chain::Link(Box::new(alloc, chain)?);
@@ -34,7 +34,7 @@ fn depth(chain: &Chain) -> u32 {
 }
 
 fn built_depth(alloc: Global, links: u32) -> u32 {
-    match chain(alloc, links) {
+    match linked(alloc, links) {
         Ok(chain) => depth(&chain),
         Err(_) => 0,
     }
