@@ -52,7 +52,7 @@ in_is s n = rw n (omega arith)
 pub goes-left : (s : Spot) (p : Option Token) (e : Spot) → Goes s p e → left e < left s
 goes-left s p e (T.OfGap text rest w g k i) =
     subst (λ (x : Spot). left x < left s) (sym i) (past-left s text rest (s.fresh || nat_lt 0 (line_ends text)) w (gap_some s.note s.fresh text rest g))
-goes-left s p e (T.Whole kind text rest w h k i) =
+goes-left s p e (T.OfToken kind text rest w h k i) =
     subst (λ (x : Spot). left x < left s) (sym i) (past-left s text rest false w (token_some s.note s.fresh kind text rest h))
 goes-left s p e (T.Opens inside after n h k i) =
     subst (λ (x : Spot). left x < left s) (sym i) (omega (arith, note_len s.bytes inside after h, note_is s n))

@@ -39,12 +39,14 @@ one_end s (p ∷ ps) (q ∷ qs) e f m n (x, g, r) i k (y, h, t) j l =
     (ap (λ (z : Option Token). z ∷ ps) piece ∙ ap (λ (z : List (Option Token)). q ∷ z) ih.0, ih.1)
 
 pub are_only : (bytes : List ℕ) (ts : List Token) → Lexes bytes ts → AreOnly bytes ts
+unfolding Lexes Stuck
 are_only bytes ts (ps, e, r, h, i) = (
   λ us (qs, f, t, k, j). let o = one_end (start bytes) qs ps f e AtEnd AtEnd t (end-again f k) tt r (end-again e h) tt in sym j ∙ ap tokens_of o.0 ∙ i,
   λ g (qs, f, t, k). let o = one_end (start bytes) ps qs e f AtEnd (Fault g) r (end-again e h) tt t (stops-again f g k) tt in let w = o.1 in cc,
 )
 
 pub is_only_fault : (bytes : List ℕ) (f : LexFault) → Stuck bytes f → IsOnlyFault bytes f
+unfolding Lexes Stuck
 is_only_fault bytes f (ps, e, r, h) = (
   λ g (qs, x, t, k). let o = one_end (start bytes) qs ps x e (Fault g) (Fault f) t (stops-again x g k) tt r (stops-again e f h) tt in same_fault g f o.1,
   λ ts (qs, x, t, k, j). let o = one_end (start bytes) ps qs e x (Fault f) AtEnd r (stops-again e f h) tt t (end-again x k) tt in let w = o.1 in cc,
@@ -84,7 +86,9 @@ found-token bytes s e t ts i (ps, r, j) =
     (ps ++ Some t ∷ [], one_more (start bytes) ps s (Some t) e r (goes s (Some t) e i), tokens_of-some ps t ∙ ap (λ (x : List Token). x ++ t ∷ []) j)
 
 pub found-end : (bytes : List ℕ) (s : Spot) (ts : List Token) → AtEnd ≡ step_of s → Found bytes s ts → Lexes bytes ts
+unfolding Lexes
 found-end bytes s ts i (ps, r, j) = (ps, s, r, subst (Says s) (sym i) (step_of-takes s), j)
 
 pub found-fault : (bytes : List ℕ) (s : Spot) (f : LexFault) (ts : List Token) → Fault f ≡ step_of s → Found bytes s ts → Stuck bytes f
+unfolding Stuck
 found-fault bytes s f ts i (ps, r, j) = (ps, s, r, subst (Says s) (sym i) (step_of-takes s))

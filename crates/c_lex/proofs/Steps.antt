@@ -66,7 +66,7 @@ pub goes-again : (s : Spot) (p : Option Token) (e : Spot) → Goes s p e → ste
 unfolding step_of end_of
 goes-again s p e (T.OfGap text rest w g k i) =
     step_read s text rest w (gap_some s.note s.fresh text rest g) ∙ ap (move_of s) (gap-again s.note s.fresh text rest g) ∙ gap_move s text rest w ∙ to_is p _ e _ k i
-goes-again s p e (T.Whole kind text rest w h k i) =
+goes-again s p e (T.OfToken kind text rest w h k i) =
     step_read s text rest w (token_some s.note s.fresh kind text rest h) ∙ ap (move_of s) (token-again s.note s.fresh kind text rest h) ∙ token_move s kind text rest w ∙ to_is p _ e _ k i
 goes-again s p e (T.Opens inside after n h k i) =
     next_read s s.bytes (note_some s.bytes inside after h)
@@ -196,7 +196,7 @@ piece_says s b more w (Q.Token kind n) e (text, rest, split, h) =
     let v : s.bytes ≡ text ++ rest = w ∙ split.whole in
     let f : take n s.bytes ≡ text = ap (λ (m : ℕ). take m s.bytes) split.len ∙ front text rest s.bytes v in
     let r : drop n s.bytes ≡ rest = ap (λ (m : ℕ). drop m s.bytes) split.len ∙ back text rest s.bytes v in
-    T.Whole kind text rest v h (ap (λ (m : ℕ). Some (token_at s kind m)) split.len) (rw (f, r) refl)
+    T.OfToken kind text rest v h (ap (λ (m : ℕ). Some (token_at s kind m)) split.len) (rw (f, r) refl)
 piece_says s b more w (Q.Note n) e (inside, after, note, h, len) =
     let is : IsNote s.bytes inside after = subst (λ (x : List ℕ). IsNote x inside after) (sym w) h in
     let v = note_after s.bytes inside after is in

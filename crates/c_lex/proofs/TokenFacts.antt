@@ -128,7 +128,7 @@ follows : (all : List ℕ) (s : Spot) (p : Option Token) (e : Spot) → Goes s p
 follows all s p e (T.OfGap text rest b g k i) h =
     let fresh : Bool = s.fresh || nat_lt 0 (line_ends text) in
     subst (λ (x : Spot). Follows all s p x) (sym i) (record { stands = past_stands all s text rest fresh b h; later = omega arith; token = λ t j. no_token p t k j })
-follows all s p e (T.Whole kind text rest b spells k i) h =
+follows all s p e (T.OfToken kind text rest b spells k i) h =
     let some = token_some s.note s.fresh kind text rest spells in
     let is = token_is all s h kind text (rest ++ s.after) (ap (λ (x : List ℕ). x ++ s.after) b ∙ append_assoc text rest s.after) (text_is s.note s.fresh kind text rest spells) (inl some) in
     subst (λ (x : Spot). Follows all s p x) (sym i)
@@ -178,13 +178,14 @@ are_tokens all s (Some t ∷ ps) e r h =
     (k.0, omega (arith, k.1), subst (λ (n : ℕ). AreTokensOf all n (tokens_of ps)) (sym k.2) more)
 
 pub in_place : (bytes : List ℕ) (ts : List Token) → Lexes bytes ts → AreTokensOf bytes 0 ts
+unfolding Lexes
 in_place bytes ts (ps, e, r, h, i) = subst (λ (x : List Token). AreTokensOf bytes 0 x) i (are_tokens bytes (start bytes) ps e r (at_start bytes))
 
 -- Notes.
 
 noted_more : (s : Spot) (t : Token) (e : Spot) (ts : List Token) → Goes s (Some t) e → are_noted e.note ts ≡ true → are_noted s.note (t ∷ ts) ≡ true
 noted_more s t e ts (T.OfGap text rest b g k i) h = absurd (cc)
-noted_more s t e ts (T.Whole kind text rest b spells k i) h =
+noted_more s t e ts (T.OfToken kind text rest b spells k i) h =
     let u = some_one t (token_at s kind (length text)) k in
     subst (λ (x : Token). are_noted s.note (x ∷ ts) ≡ true) (sym u) (same kind spells (subst (λ (x : Spot). are_noted x.note ts ≡ true) i h))
   where
@@ -205,7 +206,7 @@ noted_more s t e ts (T.Closes n b k i) h =
 
 gap_note : (s : Spot) (e : Spot) → Goes s None e → e.note ≡ s.note
 gap_note s e (T.OfGap text rest b g k i) = ap (λ (x : Spot). x.note) i
-gap_note s e (T.Whole kind text rest b spells k i) = absurd (cc)
+gap_note s e (T.OfToken kind text rest b spells k i) = absurd (cc)
 gap_note s e (T.Opens inside after n note k i) = absurd (cc)
 gap_note s e (T.Closes n b k i) = absurd (cc)
 
@@ -215,4 +216,5 @@ noted_from s (None ∷ ps) e r h = subst (λ (n : Bool). are_noted n (tokens_of 
 noted_from s (Some t ∷ ps) e r h = noted_more s t r.0 (tokens_of ps) r.1 (noted_from r.0 ps e r.2 h)
 
 pub noted : (bytes : List ℕ) (ts : List Token) → Lexes bytes ts → are_noted false ts ≡ true
+unfolding Lexes
 noted bytes ts (ps, e, r, h, i) = subst (λ (x : List Token). are_noted false x ≡ true) i (noted_from (start bytes) ps e r h)

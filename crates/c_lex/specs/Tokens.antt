@@ -109,7 +109,7 @@ past_note s =
 pub data Goes (s : Spot) (piece : Option Token) (e : Spot) : Type 0 where
   OfGap : (text rest : List ℕ) → s.bytes ≡ text ++ rest → IsGap s.note s.fresh text rest
       → piece ≡ None → e ≡ past s text rest (s.fresh || nat_lt 0 (line_ends text)) → Goes s piece e
-  Whole : (kind : TokenKind) (text rest : List ℕ) → s.bytes ≡ text ++ rest → Spells s.note s.fresh kind text rest
+  OfToken : (kind : TokenKind) (text rest : List ℕ) → s.bytes ≡ text ++ rest → Spells s.note s.fresh kind text rest
       → piece ≡ Some (token_at s kind (length text)) → e ≡ past s text rest false → Goes s piece e
   Opens : (inside after : List ℕ) → s.note ≡ false → IsNote s.bytes inside after
       → piece ≡ Some (token_at s K.NoteFrom 3) → e ≡ in_note s inside after → Goes s piece e
@@ -134,7 +134,7 @@ tokens_of (None ∷ ps) = tokens_of ps
 tokens_of (Some t ∷ ps) = t ∷ tokens_of ps
 
 -- the tokens of a text
-abbrev pub Lexes : List ℕ → List Token → Type 0
+unfoldable pub Lexes : List ℕ → List Token → Type 0
 Lexes bytes ts =
     (ps : List (Option Token)) × (e : Spot) × Reaches (start bytes) ps e × IsEnd e × (tokens_of ps ≡ ts)
 
@@ -168,7 +168,7 @@ pub data Stops (s : Spot) (f : LexFault) : Type 0 where
       → f ≡ F.Directive (record { 0 = s.line }) → Stops s f
 
 -- pieces lead to a spot from which none goes on, and this is why
-abbrev pub Stuck : List ℕ → LexFault → Type 0
+unfoldable pub Stuck : List ℕ → LexFault → Type 0
 Stuck bytes f = (ps : List (Option Token)) × (e : Spot) × Reaches (start bytes) ps e × Stops e f
 
 -- these are the tokens: the text has no others, and no fault
