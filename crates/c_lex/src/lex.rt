@@ -14,7 +14,7 @@ use fc_base::{Line, Span};
 use sqlite_items::Items;
 use std::alloc::Global;
 
-/// A place between two pieces: its offset and line, whether only blanks stand before it on its line,
+/// A place between two pieces: its offset and line, whether only gaps stand before it on its line,
 /// whether it is in a note, the bytes from there to the end of the note or of the text, and those after
 /// the note.
 #[derive(Clone, Copy)]
@@ -70,7 +70,7 @@ impl<'a> Place<'a> {
         }
     }
 
-    /// Whether only blanks stand on the line before the place after so many blank bytes.
+    /// Whether only gaps stand on the line before the place after a gap of so many bytes.
     fn is_fresh_past(self, len: usize) -> bool
         requires { len ≤ length self.bytes.now }
         ensures { IsFreshPast self.entry len result }
@@ -185,7 +185,10 @@ fn step_of<'a>(place: Place<'a>) -> Step<'a>
     }
 }
 
-/// The tokens of a text (C11 6.4; ACSL manual, lexical rules), at most 4,194,304 bytes long.
+/// The tokens of a text of at most 4,194,304 bytes, in its order (C11 6.4; ACSL manual, lexical rules):
+/// words, integer and character constants, string literals, punctuators, and the openings and ends of notes,
+/// whose tokens stand between them. Offsets count from 0, lines from 1. Where the text has no tokens the
+/// fault is the one that stands first in it. `Memory` may come for any text.
 pub fn tokens(alloc: Global, bytes: &[u8]) -> Result<Tokens, LexFault>
     requires { length bytes.now ≤ 4194304 }
     ensures found { IfOk result (Lexes bytes.now) }

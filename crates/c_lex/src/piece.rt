@@ -1,4 +1,5 @@
-//! The piece of a text that stands first: a blank, a comment, a line marker, a token or a fault.
+//! The piece of a text that stands first: a gap, which is a blank, a comment or a line marker, a token or
+//! a fault.
 
 ghost use Rattle.std.specs.Prelude.{◌≡◌, ◌+◌, ◌≤◌, ◌<◌, ◌^◌, ◌∷◌, ◌==◌, ◌&&◌, IfSome, length};
 ghost use Rattle.c_lex.specs.Spellings.{escape};
@@ -16,7 +17,7 @@ use fc_base::LiteralForm;
 /// What stands first in some bytes, with its length.
 #[derive(Clone, Copy, Debug, PartialEq, Eq)]
 pub(crate) enum Piece {
-    /// So many bytes that are no token.
+    /// A blank, a comment or a line marker of so many bytes.
     Gap(usize),
     /// A token of so many bytes.
     Token(TokenKind, usize),
