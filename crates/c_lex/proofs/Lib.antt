@@ -1,0 +1,12 @@
+pub mod Runs
+pub mod LongestRow
+pub mod Values
+pub mod Numbers
+pub mod Left
+pub mod Counted
+pub mod Scans
+pub mod Takes
+pub mod PieceAgain
+pub mod Steps
+pub mod OneReading
+pub mod TokenFacts

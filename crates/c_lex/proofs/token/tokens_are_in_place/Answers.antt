@@ -1,0 +1,8 @@
+use Rattle.c_lex.proofs.TokenFacts.{in_place, noted}
+use Rattle.c_lex.proofs.token.tokens_are_in_place.Goals as goal
+
+pub returns-clause-in_place : goal.returns-clause-in_place
+returns-clause-in_place c = in_place _ _ c.requires
+
+pub returns-clause-noted : goal.returns-clause-noted
+returns-clause-noted c = noted _ _ c.requires
