@@ -5,3 +5,4 @@ pub mod Ranks
 pub mod Loops
 pub mod Lists
 pub mod Notes
+pub mod Programs

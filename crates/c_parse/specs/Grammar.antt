@@ -13,5 +13,14 @@ may_assign v = (part_in v).is_unary
 
 abbrev pub grammar : List ℕ → Grammar Class Production Token Value
 grammar bytes =
-    record { class_at = class_at; same = same_class; rule = rule; first = first; more = more; nullable = nullable;
-      rank = rank; make = make bytes; may_extend = may_assign }
+    record {
+      class_at = class_at;
+      same = same_class;
+      rule = rule;
+      first = first;
+      more = more;
+      nullable = nullable;
+      rank = rank;
+      make = make bytes;
+      may_extend = may_assign;
+    }

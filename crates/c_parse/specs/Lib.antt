@@ -4,4 +4,5 @@ pub mod Words
 pub mod Table
 pub mod Trees
 pub mod Grammar
+pub mod Program
 pub mod inner

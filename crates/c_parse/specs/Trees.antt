@@ -496,11 +496,22 @@ close_at None m = m
 
 abbrev pub external : List ℕ → Stored → Spec → Token → Named → Item
 external bytes st spec t (M.Function fs e) =
-    U.Function (record { at = reach (start_at st.start spec.at) e.end; storage = st.storage; spec = spec;
-      name = ident_of bytes t; formals = fs; body = e.body; close = close_at e.close t.line })
+    U.Function (record {
+      at = reach (start_at st.start spec.at) e.end;
+      storage = st.storage;
+      spec = spec;
+      name = ident_of bytes t;
+      formals = fs;
+      body = e.body;
+      close = close_at e.close t.line;
+    })
 external bytes st spec t (M.Global r ds end) =
-    U.Global (record { at = reach (start_at st.start spec.at) end; storage = st.storage; spec = spec;
-      declrs = declr_of bytes t r ∷ ds })
+    U.Global (record {
+      at = reach (start_at st.start spec.at) end;
+      storage = st.storage;
+      spec = spec;
+      declrs = declr_of bytes t r ∷ ds;
+    })
 
 abbrev pub unit_item_of : Found → Item
 unit_item_of (Left w) = U.Note (note_in w)
@@ -552,11 +563,14 @@ make bytes R.WhileStatement v =
     OfPlaced (while_part (token_in (fst v)) (part_in (fst (snd v))) (governed_in (snd (snd v))))
 make bytes R.DoStatement v =
     OfPlaced (do_part (token_in (fst v)) (governed_in (fst (snd v))) (part_in (fst (snd (snd (snd v)))))
-      (token_in (snd (snd (snd (snd v))))))
+    (token_in (snd (snd (snd (snd v))))))
 make bytes R.ForStatement v = OfPlaced (for_part (token_in (fst v)) (head_in (fst (snd v))) (governed_in (snd (snd v))))
 make bytes R.ForHead v =
-    OfHead (record { first = first_in (fst (snd v)); cond = maybe_in (fst (snd (snd v)));
-      update = maybe_in (fst (snd (snd (snd (snd v))))) })
+    OfHead (record {
+      first = first_in (fst (snd v));
+      cond = maybe_in (fst (snd (snd v)));
+      update = maybe_in (fst (snd (snd (snd (snd v)))));
+    })
 make bytes R.ForFirst v = OfFirst (first_of v)
 make bytes R.Block v = OfBraced (braced_part (token_in (fst v)) (stmts_in (fst (snd v))) (token_in (snd (snd v))))
 make bytes R.Statement v = OfPlaced (statement_of v)

@@ -14,6 +14,7 @@ mod part;
 mod place;
 mod spec;
 mod stmt;
+mod text;
 mod unit;
 mod word;
 
@@ -21,6 +22,8 @@ pub use class::Class;
 pub use fault::Fault;
 pub use level::Level;
 pub use part::{
-    Braced, Bracketed, DeclrRest, Ended, Ending, Governed, Head, Named, Part, Placed, Started, Stored,
+    Braced, Bracketed, DeclrRest, Ended, Ending, Governed, Head, Named, Part, Placed, Started,
+    Stored,
 };
+pub use text::{ParseFault, parse};
 pub use word::Prefix;

@@ -1,8 +1,6 @@
 //! What the productions below a node give.
 
-use c_ast::{
-    Declrs, Expr, Exprs, First, Formals, Init, Length, Stmt, Stmts, Storages, Sub,
-};
+use c_ast::{Declrs, Expr, Exprs, First, Formals, Init, Length, Stmt, Stmts, Storages, Sub};
 use fc_base::{Line, Spot};
 
 /// An expression, its place with the parentheses round it, and whether it is a unary expression.
@@ -95,4 +93,3 @@ pub enum Named {
     Function(Formals, Ended),
     Global(DeclrRest, Declrs, Spot),
 }
-
