@@ -1,0 +1,8 @@
+pub mod Classes
+pub mod Places
+pub mod Words
+pub mod Table
+pub mod Trees
+pub mod Grammar
+pub mod Program
+pub mod inner

@@ -1,0 +1,3 @@
+-- The code's side of the definitions.
+pub mod Outcome
+pub mod Lists

@@ -1,0 +1,4 @@
+pub mod Law
+pub mod Again
+pub mod Unique
+pub mod Readings

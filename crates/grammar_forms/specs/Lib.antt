@@ -1,0 +1,4 @@
+pub mod Forms
+pub mod Derives
+pub mod Sound
+pub mod inner

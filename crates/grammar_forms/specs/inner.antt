@@ -1,0 +1,2 @@
+-- The code's side of the definitions: how a table is read.
+pub mod Reading
