@@ -1,8 +1,7 @@
 -- Lists that begin empty: what has been read joins what is still to be read.
-use Rattle.std.proofs.Common.{◌≡◌, ◌∷◌, ◌++◌, [], List, ℕ, refl, ap, sym, ◌∙◌, append_assoc}
+use Rattle.std.proofs.Common.{◌≡◌, ◌∷◌, ◌++◌, [], List, ℕ, refl, ap, sym, append_assoc}
 use Rattle.fc_base.specs.declared.syntax.Spot.{Spot}
 use Rattle.c_lex.specs.declared.token.Token.{Token}
-use Rattle.c_ast.specs.declared.expr.Expr.{Expr}
 use Rattle.c_ast.specs.declared.stmt.Declr.{Declr}
 use Rattle.c_ast.specs.declared.stmt.Stmt.{Stmt}
 use Rattle.c_ast.specs.declared.unit.Formal.{Formal}
@@ -10,8 +9,8 @@ use Rattle.c_ast.specs.declared.unit.Item.{Item}
 use Rattle.grammar_forms.specs.Forms.{Made}
 use Rattle.grammar_forms.specs.inner.Reading.{Reading, Read, Stop, Spent, with_value, finish}
 use Rattle.c_parse.specs.Table.{MoreValues, MoreDeclrs, Notes, BlockItems, MoreFormals, Storages, UnitItems}
-use Rattle.c_parse.specs.Trees.{Value, Found, OfExprs, OfDeclrs, OfSpots, OfStmts, OfFormals, OfItems, OfWords}
-use Rattle.c_parse.specs.Trees.{exprs_in, declrs_in, spots_in, stmts_in, formals_in, items_in, words_in}
+use Rattle.c_parse.specs.Trees.{Value, OfDeclrs, OfSpots, OfStmts, OfFormals, OfItems, OfWords}
+use Rattle.c_parse.specs.Trees.{declrs_in, spots_in, stmts_in, formals_in, items_in, words_in}
 use Rattle.c_parse.specs.Grammar.{grammar}
 use Rattle.c_parse.specs.inner.Outcome.{read}
 use Rattle.c_parse.specs.inner.Lists.{exprs_after, declrs_after, spots_after, stmts_after, formals_after, items_after, words_after}

@@ -1,5 +1,5 @@
 -- Loops over lists: one more of what is to be read joins what has been read.
-use Rattle.std.proofs.Common.{◌≡◌, ◌∷◌, ◌++◌, [], List, ℕ, Bool, true, false, refl, ap, sym, ◌∙◌, append_assoc}
+use Rattle.std.proofs.Common.{◌≡◌, ◌∷◌, ◌++◌, [], List, ℕ, true, refl, ap, sym, ◌∙◌, append_assoc}
 use Rattle.fc_base.specs.declared.syntax.Spot.{Spot}
 use Rattle.c_lex.specs.declared.token.Token.{Token}
 use Rattle.c_ast.specs.declared.expr.Expr.{Expr}

@@ -1,7 +1,7 @@
 -- What is read of a note is nothing but its end.
 use Rattle.std.proofs.Common.{◌≡◌, ◌∷◌, [], List, ℕ, true, false, refl, sym, subst, ◌∙◌, length, arith}
 use Rattle.c_lex.specs.declared.token.Token.{Token}
-use Rattle.grammar_forms.specs.Forms.{Made, One, one_of}
+use Rattle.grammar_forms.specs.Forms.{Made, one_of}
 use Rattle.grammar_forms.specs.inner.Reading.{Reading, Read, Stop, Spent, with_value, finish}
 use Rattle.grammar_forms.proofs.Readings.{value_value}
 use Rattle.c_parse.specs.Classes.{same_class, class_at}

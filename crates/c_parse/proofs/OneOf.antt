@@ -1,5 +1,5 @@
 -- One class more of a set.
-use Rattle.std.proofs.Common.{◌≡◌, ◌<◌, ◌+◌, suc, ◌||◌, ℕ, List, refl, drop, length, get_or, add-one, drop-cons}
+use Rattle.std.proofs.Common.{◌≡◌, ◌<◌, ◌+◌, suc, ◌||◌, ℕ, List, drop, length, get_or, add-one, drop-cons}
 use Rattle.c_parse.specs.declared.class.Class.{Class}
 use Rattle.c_parse.specs.Classes.{same_class}
 use Rattle.grammar_forms.specs.Forms.{one_of}

@@ -1,5 +1,5 @@
 -- Texts, by their reading.
-use Rattle.std.proofs.Common.{◌≡◌, ◌⊎◌, inl, inr, ◌<◌, ◌==◌, ◌-◌, ◌∷◌, [], List, ℕ, Bool, true, false, Ok, Err, refl, ap, sym, ◌∙◌, subst, length, drop, arith, rules, eqb-true}
+use Rattle.std.proofs.Common.{◌≡◌, inl, inr, ◌<◌, ◌==◌, ◌-◌, ◌∷◌, [], List, ℕ, true, false, Err, refl, ap, ◌∙◌, subst, length, drop, arith, rules, eqb-true}
 use denote.Enum.Bare.{same_true}
 use Rattle.c_parse.specs.contracts.class.Class.{the_type}
 use Rattle.c_parse.specs.declared.class.Class.{Class}
@@ -9,12 +9,12 @@ use Rattle.c_parse.specs.declared.text.ParseFault.{ParseFault}
 use Rattle.c_parse.specs.declared.text.ParseFault.TheVariants as F
 use Rattle.grammar_forms.specs.Forms.{Made}
 use Rattle.grammar_forms.specs.Derives.{Cause, Unexpected, TooDeep, IsText, StopsAt}
-use Rattle.grammar_forms.specs.inner.Reading.{Reading, Read, Stop}
+use Rattle.grammar_forms.specs.inner.Reading.{Read, Stop}
 use Rattle.grammar_forms.proofs.Law.{read_rule-derives, read_rule-stops}
 use Rattle.grammar_forms.proofs.Unique.{text_read}
 use Rattle.c_parse.specs.Classes.{same_class}
 use Rattle.c_parse.specs.Table.{UnitItems}
-use Rattle.c_parse.specs.Trees.{Value, Found, OfItems}
+use Rattle.c_parse.specs.Trees.{Found, OfItems}
 use Rattle.c_parse.specs.Grammar.{grammar}
 use Rattle.c_parse.specs.Program.{IsUnit, IsOnly, IsFault, Refuses, StopsBefore, OpensTooMany, place_at}
 use Rattle.c_parse.specs.inner.Outcome.{read}

@@ -1,5 +1,5 @@
 -- The productions of the table, as they are read.
-use Rattle.std.proofs.Common.{◌≡◌, List, ℕ, Bool, true, refl}
+use Rattle.std.proofs.Common.{◌≡◌, List, ℕ, true, refl}
 use Rattle.c_lex.specs.declared.token.Token.{Token}
 use Rattle.c_parse.specs.declared.level.Level.{Level}
 use Rattle.c_parse.specs.declared.level.Level.TheVariants as L

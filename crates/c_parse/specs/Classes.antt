@@ -3,7 +3,7 @@
 -- class_of   of a token alone
 -- class_at   of the first of some tokens, or of their end; three of them depend on the token after it:
 --            `(` before a specifier, `void` before `)`, `,` before `}`
-use Rattle.std.specs.Prelude.{◌≡◌, [], ◌∷◌, List, Bool}
+use Rattle.std.specs.Prelude.{[], ◌∷◌, List, Bool}
 use Rattle.c_lex.specs.declared.token.Token.{Token}
 use Rattle.c_lex.specs.declared.token.TokenKind.{TokenKind}
 use Rattle.c_lex.specs.declared.token.TokenKind.TheVariants as T

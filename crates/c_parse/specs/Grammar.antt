@@ -1,5 +1,5 @@
 -- The grammar of C, over a text's bytes, from which names are taken.
-use Rattle.std.specs.Prelude.{◌≡◌, Bool, ℕ, List}
+use Rattle.std.specs.Prelude.{Bool, ℕ, List}
 use Rattle.c_lex.specs.declared.token.Token.{Token}
 use Rattle.c_parse.specs.declared.class.Class.{Class}
 use Rattle.grammar_forms.specs.Forms.{Grammar}

@@ -1,5 +1,5 @@
 -- Places of nodes, and the words at them.
-use Rattle.std.specs.Prelude.{◌≡◌, ◌-◌, [], ℕ, List, Option, Some, None, take, drop, length, nat_lt, if◌then◌else◌}
+use Rattle.std.specs.Prelude.{◌-◌, [], ℕ, List, Option, Some, None, take, drop, length, nat_lt, if◌then◌else◌}
 use Rattle.std.specs.Str.{is_utf8}
 use Rattle.fc_base.specs.declared.ids.Span.{Span}
 use Rattle.fc_base.specs.declared.syntax.Spot.{Spot}

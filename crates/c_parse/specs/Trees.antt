@@ -2,8 +2,7 @@
 --
 -- Value   what a production gives to those above it
 -- make    what each production makes, in the order of the table
-use Rattle.std.specs.Prelude.{◌≡◌, ◌++◌, ◌∷◌, [], ℕ, List, Bool, true, false, Option, Some, None}
-use Rattle.fc_base.specs.declared.ids.Span.{Span}
+use Rattle.std.specs.Prelude.{◌++◌, ◌∷◌, [], ℕ, List, true, false, Option, Some, None}
 use Rattle.fc_base.specs.declared.ids.Line.{Line}
 use Rattle.fc_base.specs.declared.syntax.Spot.{Spot}
 use Rattle.c_lex.specs.declared.token.Token.{Token}
@@ -20,13 +19,10 @@ use Rattle.c_ast.specs.declared.stmt.First.{First}
 use Rattle.c_ast.specs.declared.stmt.First.TheVariants as F
 use Rattle.c_ast.specs.declared.stmt.Stmt.{Stmt}
 use Rattle.c_ast.specs.declared.stmt.Stmt.TheVariants as S
-use Rattle.c_ast.specs.declared.stmt.Sub.{Sub}
 use Rattle.c_ast.specs.Subs.{sub_of}
 use Rattle.c_ast.specs.declared.unit.Item.{Item}
 use Rattle.c_ast.specs.declared.unit.Item.TheVariants as U
 use Rattle.c_ast.specs.declared.unit.Storage.{Storage}
-use Rattle.c_ast.specs.declared.unit.Global.{Global}
-use Rattle.c_ast.specs.declared.unit.Function.{Function}
 use Rattle.c_ast.specs.declared.unit.Formal.{Formal}
 use Rattle.c_parse.specs.declared.part.Part.{Part}
 use Rattle.c_parse.specs.declared.part.Ending.{Ending}

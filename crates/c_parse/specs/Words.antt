@@ -1,6 +1,6 @@
 -- What words and punctuators mean in a tree (C11 6.4.4, 6.5, 6.7.1, 6.7.2). Each table is asked only of
 -- tokens that its production has; of others it gives some value, which no tree holds.
-use Rattle.std.specs.Prelude.{◌≡◌, Bool, true, false, Option, Some, None}
+use Rattle.std.specs.Prelude.{Bool, true, false, Option, Some, None}
 use Rattle.fc_base.specs.declared.syntax.Spot.{Spot}
 use Rattle.fc_base.specs.declared.syntax.BinaryOp.{BinaryOp}
 use Rattle.fc_base.specs.declared.syntax.BinaryOp.TheVariants as B

@@ -27,3 +27,6 @@ pub use part::{
 };
 pub use text::{ParseFault, parse};
 pub use word::Prefix;
+
+#[cfg(test)]
+mod tests;

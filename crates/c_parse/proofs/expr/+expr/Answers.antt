@@ -1,4 +1,4 @@
-use Rattle.std.proofs.Common.{◌≡◌, ◌∷◌, [], true, arith}
+use Rattle.std.proofs.Common.{◌≡◌, [], true, arith}
 use Rattle.grammar_forms.specs.Forms.{One, one_of}
 use Rattle.grammar_forms.specs.inner.Reading.{Read, token}
 use Rattle.c_parse.specs.Classes.{same_class, class_at}

@@ -1,4 +1,4 @@
-use Rattle.std.proofs.Common.{◌≡◌, ◌≤◌, ◌<◌, ◌+◌, ◌*◌, length}
+use Rattle.std.proofs.Common.{◌≡◌, ◌<◌, ◌+◌, ◌*◌, length}
 use Rattle.c_parse.specs.Table.{Binary, More, Suffixes, Postfix, MoreArgs, Args, operand, rank}
 use Rattle.c_parse.specs.inner.Outcome.{read}
 use Rattle.c_parse.specs.inner.Lists.{joins_after, ends_after, exprs_after}

@@ -1,4 +1,4 @@
-use Rattle.std.proofs.Common.{◌≡◌, true, sym, ◌∙◌, ap, length, arith}
+use Rattle.std.proofs.Common.{◌≡◌, true, arith}
 use Rattle.grammar_forms.specs.Forms.{one_of}
 use Rattle.c_parse.specs.Classes.{same_class, class_at}
 use Rattle.c_parse.specs.Table.{in_note}

@@ -1,4 +1,4 @@
-use Rattle.std.proofs.Common.{◌≡◌, sym, ◌∙◌}
+use Rattle.std.proofs.Common.{sym, ◌∙◌}
 use Rattle.c_parse.proofs.Names.{named, unnamed}
 use Rattle.c_parse.proofs.place.word_of.Goals as goal
 
