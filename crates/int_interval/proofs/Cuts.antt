@@ -6,15 +6,10 @@ use lib.Pow.{pow_mono}
 use Rattle.machine_ints.specs.Bits.{length_of}
 use Rattle.machine_ints.specs.Bound.{bounded}
 use Rattle.machine_ints.specs.Corners.{least4, greatest4}
+use Rattle.machine_ints.proofs.BoundLaws.{bounded_in, bounded_out}
 use Rattle.int_interval.specs.declared.interval.Interval.{Interval}
 use Rattle.int_interval.specs.declared.interval.Interval.TheVariants.{Within, All}
 use Rattle.int_interval.specs.Rows.{range_of, cut, four_of, corner_cut, mask, are_one, reach, remainder_low, remainder_high, remainders}
-
-pub bounded_in : (z : ℤ) → unsigned_abs z ≤ 2 ^ 126 → bounded z ≡ Some z
-bounded_in z h = ap (λ (b : Bool). cond b (Some z) None) (le-leb (unsigned_abs z) (2 ^ 126) h)
-
-pub bounded_out : (z : ℤ) → 2 ^ 126 < unsigned_abs z → bounded z ≡ None
-bounded_out z h = ap (λ (b : Bool). cond b (Some z) None) (lt-leb (unsigned_abs z) (2 ^ 126) h)
 
 pub cut_in : (lo hi : ℤ) → unsigned_abs lo ≤ 2 ^ 126 → unsigned_abs hi ≤ 2 ^ 126 → cut lo hi ≡ Within lo hi
 cut_in lo hi h k = rw (bounded_in lo h, bounded_in hi k) refl

@@ -5,14 +5,17 @@ ghost use Rattle.machine_ints.specs.Bits.{and_of, not_of, or_of, xor_of};
 ghost use Rattle.machine_ints.specs.Convert.{wrap};
 ghost use Rattle.machine_ints.specs.Operators.{IsWithin, shl_of, shr_of};
 ghost use Rattle.int_interval.specs.Laws.{
+  ContainsIsMember,
   Covers,
   CoversBits,
   CoversConversion,
   CoversDivision,
   CoversShift,
+  EmptyHasNone,
   Holds,
   IncludedIsSubset,
   JoinIsUpper,
+  JustIsOne,
   MeetIsBoth,
 };
 ghost use Rattle.int_interval.specs.Rows.{
@@ -62,8 +65,11 @@ pub fn conversion_covers()
     ensures { CoversConversion }
 {}
 
-/// A join is an upper bound, a meet is exact, and what is included is a subset.
+/// What the tests say of the numbers; a join is an upper bound, a meet is exact, and what is included is a subset.
 pub fn set_laws()
+    ensures contains { ContainsIsMember }
+    ensures is_empty { EmptyHasNone }
+    ensures is_just { JustIsOne }
     ensures join { JoinIsUpper }
     ensures meet { MeetIsBoth }
     ensures included { IncludedIsSubset }
