@@ -1,5 +1,6 @@
 -- What the answers stand for, operator by operator.
-use Rattle.std.proofs.Common.{◌≡◌, ◌≢◌, ℕ, suc, ◌-◌, ◌^◌, ◌≤◌, ◌<◌, max, ℤ, pos, negsuc, neg_ℤ, ◌+ℤ◌, ◌-ℤ◌, ◌*ℤ◌, ◌≤ℤ◌, ◌<ℤ◌, unsigned_abs, int_div, int_rem, int_le, int_lt, Bool, true, false, cond, ◌⊎◌, refl, sym, subst, arith, inl, inr, ⊎_elim}
+use Rattle.std.proofs.Common.{◌≡◌, ◌≢◌, ℕ, suc, ◌^◌, ◌≤◌, ◌<◌, max, ℤ, pos, negsuc, neg_ℤ, ◌+ℤ◌, ◌-ℤ◌, ◌*ℤ◌, ◌≤ℤ◌}
+use Rattle.std.proofs.Common.{◌<ℤ◌, unsigned_abs, int_div, int_rem, int_le, int_lt, Bool, true, false, cond, ◌⊎◌, refl, sym, subst, arith, inl, inr, ⊎_elim}
 use Rattle.std.specs.Int.{int_min, int_max}
 use Rattle.std.proofs.lemmas.Int.{ints, clamps, by_lt_z}
 use Rattle.std.proofs.lemmas.Bool.{cases_lt, and_parts, and_from, false≢true}
@@ -8,8 +9,7 @@ use Rattle.machine_ints.specs.Bits.{and_of, or_of, xor_of, not_of, length_of}
 use Rattle.machine_ints.specs.Convert.{wrap}
 use Rattle.machine_ints.specs.Corners.{least4, greatest4}
 use Rattle.machine_ints.specs.Operators.{IsWithin, shl_of, shr_of}
-use Rattle.machine_ints.proofs.BitLaws.{IsSigned, and_low, or_above, or_low, xor_natural, xor_low, and_signed, or_signed, xor_signed, not-is, below_length}
-use Rattle.machine_ints.proofs.Conversions.{wrap_low, wrap_high, wrap_is, wrap_same, IsRange, range_of_type}
+use Rattle.machine_ints.proofs.BitLaws.{and_low, or_above, or_low, xor_natural, xor_low, below_length}
 use Rattle.machine_ints.proofs.Choices.{choose}
 use Rattle.machine_ints.proofs.Corners.{Cornered, cornered_mul}
 use Rattle.machine_ints.proofs.Quotients.{cornered_above, cornered_below, cornered_shr, rem_above, rem_below_zero}
@@ -18,8 +18,11 @@ use Rattle.int_interval.specs.declared.shape.Shape.{Shape}
 use Rattle.int_interval.specs.declared.interval.Interval.{Interval}
 use Rattle.int_interval.specs.declared.interval.Interval.TheVariants.{Empty, Within, All}
 use Rattle.int_interval.specs.Laws.{Holds, Covers, CoversDivision, CoversShift, CoversBits, CoversConversion, ContainsIsMember, EmptyHasNone, JustIsOne, IncludedIsSubset}
-use Rattle.int_interval.specs.Rows.{cut, by_ends, corner_cut, is_one, are_one, are_natural, is_inside, is_empty, contains_row, is_just, join_row, meet_row, included_row, convert_row, negative_row, sum_row, difference_row, product_row, quotients_below, quotients_above, quotient_row, reach, remainder_low, remainder_high, remainders, remainder_row, shl_row, shr_row, mask, by_bits, not_row, and_row, or_row, xor_row}
-use Rattle.int_interval.specs.Shapes.{IsShape, IsShift, is_signed, top_of}
+use Rattle.int_interval.specs.Rows.{cut, by_ends, corner_cut, is_one, are_one, are_natural, is_inside}
+use Rattle.int_interval.specs.Rows.{join_row, meet_row, included_row, convert_row, negative_row, sum_row, difference_row}
+use Rattle.int_interval.specs.Rows.{product_row, quotients_below, quotients_above, quotient_row, reach, remainder_low, remainder_high, remainders}
+use Rattle.int_interval.specs.Rows.{remainder_row, shl_row, shr_row, mask, by_bits, not_row, and_row, or_row, xor_row}
+use Rattle.int_interval.specs.Shapes.{IsShape, IsShift, top_of}
 use Rattle.int_interval.proofs.Cuts.{cut_in, cut_low, cut_high}
 
 -- ---- forms
@@ -35,7 +38,8 @@ corner_holds : (f : ℤ → ℤ → ℤ) (a b c d z : ℤ) → Cornered (f a c) 
 unfolding corner_cut
 corner_holds f a b c d z s = cut_holds (least4 (f a c) (f a d) (f b c) (f b d)) (greatest4 (f a c) (f a d) (f b c) (f b d)) z s.low s.high
 
-ends_hold : (f : ℤ → ℤ → ℤ → ℤ → Interval) (a b : Interval) (x y z : ℤ) → Holds a x → Holds b y → ((p q r s : ℤ) → a ≡ Within p q → b ≡ Within r s → p ≤ℤ x → x ≤ℤ q → r ≤ℤ y → y ≤ℤ s → Holds (f p q r s) z) → Holds (by_ends f a b) z
+ends_hold : (f : ℤ → ℤ → ℤ → ℤ → Interval) (a b : Interval) (x y z : ℤ) → Holds a x → Holds b y
+    → ((p q r s : ℤ) → a ≡ Within p q → b ≡ Within r s → p ≤ℤ x → x ≤ℤ q → r ≤ℤ y → y ≤ℤ s → Holds (f p q r s) z) → Holds (by_ends f a b) z
 ends_hold f Empty b x y z h k g = h
 ends_hold f (Within p q) Empty x y z h k g = k
 ends_hold f (Within p q) (Within r s) x y z h k g = g p q r s refl refl h.0 h.1 k.0 k.1
@@ -157,8 +161,10 @@ one_remainder p q r s x y e h k i j = let t = and_parts (is_one p q) (is_one r s
 
 many_remainders : (p q r s x y : ℤ) → y ≢ pos 0 → p ≤ℤ x → x ≤ℤ q → r ≤ℤ y → y ≤ℤ s → Holds (cut (remainder_low p (reach r s)) (remainder_high q (reach r s))) (int_rem x y)
 many_remainders p q r s x y n h k i j = cut_holds (remainder_low p m) (remainder_high q m) (int_rem x y)
-    (by_lt_z x (pos 0) (λ (l : x <ℤ pos 0). let z = rem_below_zero x y m n near (omega (arith, ints)) in low (int_le (pos 0) p) refl (omega (arith, ints)) z.1 z.2) (λ (l : pos 0 ≤ℤ x). let z = rem_above x y m n near l in low' (int_le (pos 0) p) refl z.0))
-    (by_lt_z x (pos 0) (λ (l : x <ℤ pos 0). let z = rem_below_zero x y m n near (omega (arith, ints)) in high' (int_le q (pos 0)) refl z.0) (λ (l : pos 0 ≤ℤ x). let z = rem_above x y m n near l in high (int_le q (pos 0)) refl l z.1 z.2))
+    (by_lt_z x (pos 0) (λ (l : x <ℤ pos 0). let z = rem_below_zero x y m n near (omega (arith, ints)) in low (int_le (pos 0) p) refl (omega (arith, ints)) z.1 z.2)
+    (λ (l : pos 0 ≤ℤ x). let z = rem_above x y m n near l in low' (int_le (pos 0) p) refl z.0))
+    (by_lt_z x (pos 0) (λ (l : x <ℤ pos 0). let z = rem_below_zero x y m n near (omega (arith, ints)) in high' (int_le q (pos 0)) refl z.0)
+    (λ (l : pos 0 ≤ℤ x). let z = rem_above x y m n near l in high (int_le q (pos 0)) refl l z.1 z.2))
   where
     m : ℕ
     m = reach r s
@@ -205,7 +211,8 @@ power_le y z h k = omega (arith, ints, pow_mono {i = unsigned_abs y} {j = unsign
 pub shl_holds : CoversShift shl_row shl_of
 unfolding shl_row
 shl_holds shape a b x y v f g = ends_hold _ a b x y (shl_of x y) f g (λ p q r s _ e h k i j. let w : IsShift shape (Within r s) = subst (IsShift shape) e v in
-    corner_holds shl_of p q r s (shl_of x y) (cornered_mul p q (pos (2 ^ unsigned_abs r)) (pos (2 ^ unsigned_abs s)) x (pos (2 ^ unsigned_abs y)) h k (power_le r y w.0 i) (power_le y s (omega (arith, ints, w.0)) j)))
+    corner_holds shl_of p q r s (shl_of x y) (cornered_mul p q (pos (2 ^ unsigned_abs r)) (pos (2 ^ unsigned_abs s)) x (pos (2 ^ unsigned_abs y)) h k (power_le r y w.0 i)
+    (power_le y s (omega (arith, ints, w.0)) j)))
 
 pub shr_holds : CoversShift shr_row shr_of
 unfolding shr_row
@@ -217,26 +224,34 @@ shr_holds shape a b x y v f g = ends_hold _ a b x y (shr_of x y) f g (λ p q r s
 pub not_holds : (shape : Shape) (a : Interval) (x : ℤ) → IsShape shape → IsWithin shape.lo shape.hi x → Holds a x → Holds (not_row shape a) (wrap shape.lo shape.width (not_of x))
 unfolding not_row
 not_holds shape Empty x t i h = h
-not_holds shape (Within p q) x t i h = rw (complement_is shape.lo shape.hi shape.width t x i) (cut_holds (top_of shape -ℤ q) (top_of shape -ℤ p) (top_of shape -ℤ x) (omega (arith, ints, h.1)) (omega (arith, ints, h.0)))
+not_holds shape (Within p q) x t i h = rw (complement_is shape.lo shape.hi shape.width t x i)
+    (cut_holds (top_of shape -ℤ q) (top_of shape -ℤ p) (top_of shape -ℤ x) (omega (arith, ints, h.1)) (omega (arith, ints, h.0)))
 not_holds shape All x t i h = tt
 
 -- the three operators by the same cases
-bits_hold : (exact : ℤ → ℤ → ℤ) (low : ℤ → ℤ → ℤ → ℤ → Interval) (shape : Shape) (a b : Interval) (x y : ℤ) → IsWithin shape.lo shape.hi (exact x y) → ((p q r s : ℤ) → pos 0 ≤ℤ p → pos 0 ≤ℤ r → p ≤ℤ x → x ≤ℤ q → r ≤ℤ y → y ≤ℤ s → Holds (low p q r s) (exact x y)) → Holds a x → Holds b y → Holds (by_bits shape exact low a b) (exact x y)
+bits_hold : (exact : ℤ → ℤ → ℤ) (low : ℤ → ℤ → ℤ → ℤ → Interval) (shape : Shape) (a b : Interval) (x y : ℤ) → IsWithin shape.lo shape.hi (exact x y)
+    → ((p q r s : ℤ) → pos 0 ≤ℤ p → pos 0 ≤ℤ r → p ≤ℤ x → x ≤ℤ q → r ≤ℤ y → y ≤ℤ s → Holds (low p q r s) (exact x y)) → Holds a x → Holds b y → Holds (by_bits shape exact low a b) (exact x y)
 bits_hold exact low shape a b x y inside g f e = ends_hold _ a b x y (exact x y) f e (λ p q r s _ _ h k i j.
     choose (λ v. Holds v (exact x y)) (are_one p q r s) _ _
-    (λ one. let t = and_parts (is_one p q) (is_one r s) one in let same : exact x y ≡ exact p r = rw (one_same p q x t.0 h k, one_same r s y t.1 i j) refl in rw same (cut_holds (exact p r) (exact p r) (exact p r) (omega (arith, ints)) (omega (arith, ints))))
+    (λ one. let t = and_parts (is_one p q) (is_one r s) one in let same : exact x y ≡ exact p r = rw (one_same p q x t.0 h k, one_same r s y t.1 i j) refl in
+    rw same (cut_holds (exact p r) (exact p r) (exact p r) (omega (arith, ints)) (omega (arith, ints))))
     (λ _. choose (λ v. Holds v (exact x y)) (are_natural p r) (low p q r s) (cut shape.lo shape.hi)
     (λ both. let t = and_parts (int_le (pos 0) p) (int_le (pos 0) r) both in let u = t.0 in let v = t.1 in g p q r s (omega (arith, ints)) (omega (arith, ints)) h k i j)
     (λ _. cut_holds shape.lo shape.hi (exact x y) inside.0 inside.1)))
 
-mask_above : (q s x y : ℤ) → pos 0 ≤ℤ x → x ≤ℤ q → pos 0 ≤ℤ y → y ≤ℤ s → (128 ≤ length_of (max (unsigned_abs q) (unsigned_abs s))) ⊎ ((x <ℤ pos (2 ^ length_of (max (unsigned_abs q) (unsigned_abs s)))) × (y <ℤ pos (2 ^ length_of (max (unsigned_abs q) (unsigned_abs s)))))
-mask_above q s x y h k i j = ⊎_elim (λ (l : max (unsigned_abs q) (unsigned_abs s) < 2 ^ length_of (max (unsigned_abs q) (unsigned_abs s))). inr (omega (arith, ints), omega (arith, ints))) inl (below_length (max (unsigned_abs q) (unsigned_abs s)))
+mask_above : (q s x y : ℤ) → pos 0 ≤ℤ x → x ≤ℤ q → pos 0 ≤ℤ y → y ≤ℤ s
+    → (128 ≤ length_of (max (unsigned_abs q) (unsigned_abs s))) ⊎
+    ((x <ℤ pos (2 ^ length_of (max (unsigned_abs q) (unsigned_abs s)))) × (y <ℤ pos (2 ^ length_of (max (unsigned_abs q) (unsigned_abs s)))))
+mask_above q s x y h k i j = ⊎_elim (λ (l : max (unsigned_abs q) (unsigned_abs s) < 2 ^ length_of (max (unsigned_abs q) (unsigned_abs s))). inr
+    (omega (arith, ints), omega (arith, ints))) inl (below_length (max (unsigned_abs q) (unsigned_abs s)))
 
 -- what is below each power of two that both are below is at most the mask
-mask_holds : (exact : ℤ → ℤ → ℤ) (lo q s x y : ℤ) → pos 0 ≤ℤ x → x ≤ℤ q → pos 0 ≤ℤ y → y ≤ℤ s → lo ≤ℤ exact x y → ((k : ℕ) → x <ℤ pos (2 ^ k) → y <ℤ pos (2 ^ k) → exact x y <ℤ pos (2 ^ k)) → Holds (cut lo (mask q s)) (exact x y)
+mask_holds : (exact : ℤ → ℤ → ℤ) (lo q s x y : ℤ) → pos 0 ≤ℤ x → x ≤ℤ q → pos 0 ≤ℤ y → y ≤ℤ s → lo ≤ℤ exact x y → ((k : ℕ) → x <ℤ pos (2 ^ k) → y <ℤ pos (2 ^ k) → exact x y <ℤ pos (2 ^ k))
+    → Holds (cut lo (mask q s)) (exact x y)
 mask_holds exact lo q s x y h k i j low below = ⊎_elim
     (λ (far : 128 ≤ length_of n). rw (cut_high lo (mask q s) (omega (arith, pow_mono {i = 127} {j = length_of n} (omega arith)))) tt)
-    (λ (near : (x <ℤ pos (2 ^ length_of n)) × (y <ℤ pos (2 ^ length_of n))). let b = below (length_of n) near.0 near.1 in cut_holds lo (mask q s) (exact x y) low (omega (arith, ints, pow_pos (length_of n))))
+    (λ (near : (x <ℤ pos (2 ^ length_of n)) × (y <ℤ pos (2 ^ length_of n))). let b = below (length_of n) near.0 near.1 in
+    cut_holds lo (mask q s) (exact x y) low (omega (arith, ints, pow_pos (length_of n))))
     (mask_above q s x y h k i j)
   where
     n : ℕ
@@ -252,13 +267,15 @@ pub or_holds : CoversBits or_row or_of
 unfolding or_row
 or_holds shape a b x y t i j = bits_hold or_of (λ a b c d. cut (int_max a c) (mask b d)) shape a b x y
     (or_within shape.lo shape.hi shape.width t x y i j)
-    (λ p q r s l m h k f g. let u : pos 0 ≤ℤ x = omega (arith, ints) in let v : pos 0 ≤ℤ y = omega (arith, ints) in mask_holds or_of (int_max p r) q s x y u k v g (omega (arith, ints, clamps, or_above x y u v)) (λ n e d. (or_low x y n u v e d).1))
+    (λ p q r s l m h k f g. let u : pos 0 ≤ℤ x = omega (arith, ints) in let v : pos 0 ≤ℤ y = omega (arith, ints) in
+    mask_holds or_of (int_max p r) q s x y u k v g (omega (arith, ints, clamps, or_above x y u v)) (λ n e d. (or_low x y n u v e d).1))
 
 pub xor_holds : CoversBits xor_row xor_of
 unfolding xor_row
 xor_holds shape a b x y t i j = bits_hold xor_of (λ a b c d. cut (pos 0) (mask b d)) shape a b x y
     (xor_within shape.lo shape.hi shape.width t x y i j)
-    (λ p q r s l m h k f g. let u : pos 0 ≤ℤ x = omega (arith, ints) in let v : pos 0 ≤ℤ y = omega (arith, ints) in mask_holds xor_of (pos 0) q s x y u k v g (xor_natural x y u v) (λ n e d. (xor_low x y n u v e d).1))
+    (λ p q r s l m h k f g. let u : pos 0 ≤ℤ x = omega (arith, ints) in let v : pos 0 ≤ℤ y = omega (arith, ints) in
+    mask_holds xor_of (pos 0) q s x y u k v g (xor_natural x y u v) (λ n e d. (xor_low x y n u v e d).1))
 
 -- ---- conversion
 

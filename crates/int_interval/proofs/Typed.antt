@@ -1,5 +1,6 @@
 -- Operators on intervals of a type leave the type only where a check speaks of it.
-use Rattle.std.proofs.Common.{◌≡◌, ℕ, ◌-◌, ◌^◌, ◌≤◌, ◌<◌, max, ℤ, pos, negsuc, neg_ℤ, ◌-ℤ◌, ◌≤ℤ◌, ◌<ℤ◌, unsigned_abs, int_div, int_rem, int_le, int_lt, Bool, true, false, cond, refl, sym, ◌∙◌, arith, ⊎_elim}
+use Rattle.std.proofs.Common.{◌≡◌, ℕ, ◌-◌, ◌^◌, max, ℤ, pos, neg_ℤ, ◌-ℤ◌, ◌≤ℤ◌}
+use Rattle.std.proofs.Common.{unsigned_abs, int_div, int_rem, int_le, int_lt, true, cond, sym, ◌∙◌, arith, ⊎_elim}
 use Rattle.std.specs.Int.{int_min, int_max}
 use Rattle.std.proofs.lemmas.Int.{ints, clamps}
 use Rattle.std.proofs.lemmas.Bool.{and_parts, and_from, false≢true}
@@ -8,14 +9,15 @@ use Rattle.machine_ints.specs.Bits.{and_of, or_of, xor_of, length_of}
 use Rattle.machine_ints.specs.Convert.{wrap}
 use Rattle.machine_ints.specs.Corners.{least4, greatest4}
 use Rattle.machine_ints.specs.Operators.{IsWithin, shr_of}
-use Rattle.machine_ints.proofs.BitLaws.{and_low, length_least}
+use Rattle.machine_ints.proofs.BitLaws.{length_least}
 use Rattle.machine_ints.proofs.Choices.{choose}
 use Rattle.machine_ints.proofs.Conversions.{range_of_type}
 use Rattle.machine_ints.proofs.Results.{wrap_within, natural_quotient, remainder_within, shr_within, and_within, or_within, xor_within, complement_is}
 use Rattle.int_interval.specs.declared.shape.Shape.{Shape}
 use Rattle.int_interval.specs.declared.interval.Interval.{Interval}
 use Rattle.int_interval.specs.declared.interval.Interval.TheVariants.{Empty, Within, All}
-use Rattle.int_interval.specs.Rows.{cut, by_ends, corner_cut, is_one, are_one, are_natural, is_inside, join_row, meet_row, quotients_below, quotients_above, quotient_row, reach, remainder_low, remainder_high, remainders, remainder_row, shr_row, mask, by_bits, not_row, and_row, or_row, xor_row, convert_row}
+use Rattle.int_interval.specs.Rows.{cut, by_ends, corner_cut, is_one, are_one, are_natural, is_inside, join_row, meet_row, quotients_below, quotients_above, quotient_row}
+use Rattle.int_interval.specs.Rows.{reach, remainder_low, remainder_high, remainders, remainder_row, shr_row, mask, by_bits, not_row, and_row, or_row, xor_row, convert_row}
 use Rattle.int_interval.specs.Shapes.{IsShape, IsShift, IsTyped, top_of}
 use Rattle.int_interval.proofs.Cuts.{cut_in}
 
@@ -30,7 +32,8 @@ typed_enclosed shape Empty u = tt
 typed_enclosed shape (Within p q) u = (u.0, u.2)
 typed_enclosed shape All u = u
 
-ends_enclosed : (shape : Shape) (f : ℤ → ℤ → ℤ → ℤ → Interval) (a b : Interval) → IsTyped shape a → IsTyped shape b → ((p q r s : ℤ) → IsTyped shape (Within p q) → IsTyped shape (Within r s) → IsEnclosed shape (f p q r s)) → IsEnclosed shape (by_ends f a b)
+ends_enclosed : (shape : Shape) (f : ℤ → ℤ → ℤ → ℤ → Interval) (a b : Interval) → IsTyped shape a → IsTyped shape b
+    → ((p q r s : ℤ) → IsTyped shape (Within p q) → IsTyped shape (Within r s) → IsEnclosed shape (f p q r s)) → IsEnclosed shape (by_ends f a b)
 ends_enclosed shape f Empty b u v g = tt
 ends_enclosed shape f (Within p q) Empty u v g = tt
 ends_enclosed shape f (Within p q) (Within r s) u v g = g p q r s u v
@@ -67,14 +70,17 @@ module _ (shape : Shape) (t : IsShape shape) where
   zero_in : IsWithin shape.lo shape.hi (pos 0)
   zero_in = let r = range_of_type shape.lo shape.hi shape.width t in (r.low, r.high)
 
-  corner_enclosed : (f : ℤ → ℤ → ℤ) (p q r s : ℤ) → IsWithin shape.lo shape.hi (f p r) → IsWithin shape.lo shape.hi (f p s) → IsWithin shape.lo shape.hi (f q r) → IsWithin shape.lo shape.hi (f q s) → IsEnclosed shape (corner_cut f p q r s)
+  corner_enclosed : (f : ℤ → ℤ → ℤ) (p q r s : ℤ) → IsWithin shape.lo shape.hi (f p r) → IsWithin shape.lo shape.hi (f p s) → IsWithin shape.lo shape.hi (f q r)
+      → IsWithin shape.lo shape.hi (f q s) → IsEnclosed shape (corner_cut f p q r s)
   unfolding corner_cut
-  corner_enclosed f p q r s i j k l = cut_enclosed (least4 (f p r) (f p s) (f q r) (f q s)) (greatest4 (f p r) (f p s) (f q r) (f q s)) (least (f p r) (f p s) (f q r) (f q s) i j k l) (greatest (f p r) (f p s) (f q r) (f q s) i j k l)
+  corner_enclosed f p q r s i j k l = cut_enclosed (least4 (f p r) (f p s) (f q r) (f q s)) (greatest4 (f p r) (f p s) (f q r) (f q s)) (least (f p r) (f p s) (f q r) (f q s) i j k l)
+      (greatest (f p r) (f p s) (f q r) (f q s) i j k l)
     where
       least : (u v w z : ℤ) → IsWithin shape.lo shape.hi u → IsWithin shape.lo shape.hi v → IsWithin shape.lo shape.hi w → IsWithin shape.lo shape.hi z → IsWithin shape.lo shape.hi (least4 u v w z)
       least u v w z i j k l = (omega (arith, ints, clamps, i.0, j.0, k.0, l.0), omega (arith, ints, clamps, i.1))
 
-      greatest : (u v w z : ℤ) → IsWithin shape.lo shape.hi u → IsWithin shape.lo shape.hi v → IsWithin shape.lo shape.hi w → IsWithin shape.lo shape.hi z → IsWithin shape.lo shape.hi (greatest4 u v w z)
+      greatest : (u v w z : ℤ) → IsWithin shape.lo shape.hi u → IsWithin shape.lo shape.hi v → IsWithin shape.lo shape.hi w → IsWithin shape.lo shape.hi z
+          → IsWithin shape.lo shape.hi (greatest4 u v w z)
       greatest u v w z i j k l = (omega (arith, ints, clamps, i.0), omega (arith, ints, clamps, i.1, j.1, k.1, l.1))
 
   pub join_enclosed : (a b : Interval) → IsTyped shape a → IsTyped shape b → IsEnclosed shape (join_row a b)
@@ -105,7 +111,8 @@ module _ (shape : Shape) (t : IsShape shape) where
       (λ e. absurd (omega (arith, ints, j.0)))
       (λ _. choose (IsEnclosed shape) (int_lt (pos 0) s) _ Empty
       (λ e. let left : IsWithin shape.lo shape.hi p = (i.0, omega (arith, ints, i.1, i.2)) in let right : IsWithin shape.lo shape.hi q = (omega (arith, ints, i.0, i.1), i.2) in
-      let from : IsWithin shape.lo shape.hi (int_max r (pos 1)) = (omega (arith, ints, clamps, j.0), omega (arith, ints, clamps, j.1, j.2)) in let to : IsWithin shape.lo shape.hi s = (omega (arith, ints, j.0, j.1), j.2) in
+      let from : IsWithin shape.lo shape.hi (int_max r (pos 1)) = (omega (arith, ints, clamps, j.0), omega (arith, ints, clamps, j.1, j.2)) in
+      let to : IsWithin shape.lo shape.hi s = (omega (arith, ints, j.0, j.1), j.2) in
       corner_enclosed int_div p q (int_max r (pos 1)) s (divided p (int_max r (pos 1)) n left from) (divided p s n left to) (divided q (int_max r (pos 1)) n right from) (divided q s n right to))
       (λ _. tt)))
     where
@@ -124,7 +131,8 @@ module _ (shape : Shape) (t : IsShape shape) where
       let left : IsWithin shape.lo shape.hi p = (i.0, omega (arith, ints, i.1, i.2)) in let right : IsWithin shape.lo shape.hi q = (omega (arith, ints, i.0, i.1), i.2) in
       choose (IsEnclosed shape) (are_one r (pos 0) s (pos 0)) _ _ (λ _. tt)
       (λ n. choose (IsEnclosed shape) (are_one p q r s) _ _
-      (λ e. let w = remainder_within shape.lo shape.hi shape.width t p r left (λ z. absurd (false≢true (sym n ∙ only_zero r s z (and_parts (is_one p q) (is_one r s) e).1))) in cut_enclosed (int_rem p r) (int_rem p r) w w)
+      (λ e. let w = remainder_within shape.lo shape.hi shape.width t p r left (λ z. absurd (false≢true (sym n ∙ only_zero r s z (and_parts (is_one p q) (is_one r s) e).1))) in
+      cut_enclosed (int_rem p r) (int_rem p r) w w)
       (λ _. cut_enclosed (remainder_low p (reach r s)) (remainder_high q (reach r s)) (lowest_within p (reach r s) left) (highest_within q (reach r s) right))))
     where
       only_zero : (r s : ℤ) → r ≡ pos 0 → is_one r s ≡ true → are_one r (pos 0) s (pos 0) ≡ true
@@ -170,7 +178,10 @@ module _ (shape : Shape) (t : IsShape shape) where
       below : (w : ℕ) → shape.hi ≡ pos (2 ^ w - 1) → mask b d ≤ℤ shape.hi
       below w e = let p = pow_pos w in let l = length_least n w (omega (arith, ints)) in let m = pow_mono {i = length_of n} {j = w} l in omega (arith, ints)
 
-  bits_enclosed : (exact : ℤ → ℤ → ℤ) (low : ℤ → ℤ → ℤ → ℤ → Interval) (a b : Interval) → ((x y : ℤ) → IsWithin shape.lo shape.hi x → IsWithin shape.lo shape.hi y → IsWithin shape.lo shape.hi (exact x y)) → ((p q r s : ℤ) → IsTyped shape (Within p q) → IsTyped shape (Within r s) → pos 0 ≤ℤ p → pos 0 ≤ℤ r → IsEnclosed shape (low p q r s)) → IsTyped shape a → IsTyped shape b → IsEnclosed shape (by_bits shape exact low a b)
+  bits_enclosed : (exact : ℤ → ℤ → ℤ) (low : ℤ → ℤ → ℤ → ℤ → Interval) (a b : Interval)
+      → ((x y : ℤ) → IsWithin shape.lo shape.hi x → IsWithin shape.lo shape.hi y → IsWithin shape.lo shape.hi (exact x y))
+      → ((p q r s : ℤ) → IsTyped shape (Within p q) → IsTyped shape (Within r s) → pos 0 ≤ℤ p → pos 0 ≤ℤ r → IsEnclosed shape (low p q r s)) → IsTyped shape a → IsTyped shape b
+      → IsEnclosed shape (by_bits shape exact low a b)
   bits_enclosed exact low a b g f u v = ends_enclosed shape _ a b u v (λ p q r s i j.
       choose (IsEnclosed shape) (are_one p q r s) _ _
       (λ _. let w = g p r (i.0, omega (arith, ints, i.1, i.2)) (j.0, omega (arith, ints, j.1, j.2)) in cut_enclosed (exact p r) (exact p r) w w)
@@ -186,7 +197,8 @@ module _ (shape : Shape) (t : IsShape shape) where
   pub or_enclosed : (a b : Interval) → IsTyped shape a → IsTyped shape b → IsEnclosed shape (or_row shape a b)
   unfolding or_row
   or_enclosed a b = bits_enclosed or_of (λ a b c d. cut (int_max a c) (mask b d)) a b (or_within shape.lo shape.hi shape.width t)
-      (λ p q r s i j h k. cut_enclosed (int_max p r) (mask q s) (omega (arith, ints, clamps, i.0), omega (arith, ints, clamps, i.1, i.2, j.1, j.2)) (mask_within q s (omega (arith, ints, i.1)) (omega (arith, ints, j.1)) i.2 j.2))
+      (λ p q r s i j h k. cut_enclosed (int_max p r) (mask q s) (omega (arith, ints, clamps, i.0), omega (arith, ints, clamps, i.1, i.2, j.1, j.2))
+      (mask_within q s (omega (arith, ints, i.1)) (omega (arith, ints, j.1)) i.2 j.2))
 
   pub xor_enclosed : (a b : Interval) → IsTyped shape a → IsTyped shape b → IsEnclosed shape (xor_row shape a b)
   unfolding xor_row

@@ -20,6 +20,7 @@ ghost use Rattle.int_interval.specs.Rows.{
 
 use crate::interval::{Interval, are_one, corners, cut_range, range};
 use crate::shape::Shape;
+use machine_ints::{difference, negative, product, quotient, remainder, sum};
 
 impl Interval {
     /// The numbers `-x`.
@@ -29,7 +30,7 @@ impl Interval {
     {
         match *self {
             Interval::Empty => Interval::Empty,
-            Interval::Within { lo, hi } => range(machine_ints::negative(hi), machine_ints::negative(lo)),
+            Interval::Within { lo, hi } => range(negative(hi), negative(lo)),
             Interval::All => Interval::All,
         }
     }
@@ -42,8 +43,8 @@ impl Interval {
         match (*self, *other) {
             (Interval::Empty, _) | (_, Interval::Empty) => Interval::Empty,
             (Interval::Within { lo: a, hi: b }, Interval::Within { lo: c, hi: d }) => range(
-                machine_ints::sum(a, c),
-                machine_ints::sum(b, d),
+                sum(a, c),
+                sum(b, d),
             ),
             _ => Interval::All,
         }
@@ -57,7 +58,7 @@ impl Interval {
         match (*self, *other) {
             (Interval::Empty, _) | (_, Interval::Empty) => Interval::Empty,
             (Interval::Within { lo: a, hi: b }, Interval::Within { lo: c, hi: d }) => {
-                range(machine_ints::difference(a, d), machine_ints::difference(b, c))
+                range(difference(a, d), difference(b, c))
             }
             _ => Interval::All,
         }
@@ -155,7 +156,7 @@ impl Interval {
 fn products(a: i128, b: i128, c: i128, d: i128) -> Interval
     ensures { result ≡ corner_cut ◌*ℤ◌ a b c d }
 {
-    corners(machine_ints::product(a, c), machine_ints::product(a, d), machine_ints::product(b, c), machine_ints::product(b, d))
+    corners(product(a, c), product(a, d), product(b, c), product(b, d))
 }
 
 /// The quotients at the corners.
@@ -165,10 +166,10 @@ fn quotients(a: i128, b: i128, c: i128, d: i128) -> Interval
     ensures { result ≡ corner_cut int_div a b c d }
 {
     corners(
-        machine_ints::quotient(a, c),
-        machine_ints::quotient(a, d),
-        machine_ints::quotient(b, c),
-        machine_ints::quotient(b, d),
+        quotient(a, c),
+        quotient(a, d),
+        quotient(b, c),
+        quotient(b, d),
     )
 }
 
@@ -211,7 +212,7 @@ fn one_remainder(a: i128, c: i128) -> Interval
     requires { c ≢ pos 0 }
     ensures { result ≡ cut (int_rem a c) (int_rem a c) }
 {
-    let rest = machine_ints::remainder(a, c);
+    let rest = remainder(a, c);
     cut_range(rest, rest)
 }
 

@@ -6,7 +6,8 @@ use Rattle.std.proofs.Math.Nat.{div-le_self}
 use lib.Pow.{pow_pos}
 use Rattle.machine_ints.specs.Bits.{not_of, and_of, or_of, xor_of}
 use Rattle.machine_ints.specs.Convert.{IsType, wrap}
-use Rattle.machine_ints.specs.Operators.{IsWithin, PassesDivision, PassesQuotient, PassesIf, shl_of, shr_of, exact_of, exact_unary, first_check, second_check, may_end, is_wrapped, value_of, unary_value, complement_sum}
+use Rattle.machine_ints.specs.Operators.{IsWithin, PassesDivision, PassesQuotient, PassesIf, shl_of, shr_of, exact_of}
+use Rattle.machine_ints.specs.Operators.{exact_unary, first_check, second_check, may_end, is_wrapped, value_of, unary_value, complement_sum}
 use Rattle.machine_ints.specs.Results.{IsRightOperand, ExactIsValue, ValueIsTyped, UnaryIsTyped, ComplementIs, WrapIsTyped}
 use Rattle.machine_ints.specs.declared.operators.Operator.{Operator}
 use Rattle.machine_ints.specs.declared.operators.Operator.TheVariants.{Add, Sub, Mul, Div, Rem, Shl, Shr, And, Or, Xor}
@@ -69,7 +70,8 @@ module _ (lo hi : ℤ) (width : ℕ) (t : IsType lo hi width) where
       (λ (u : IsUnsignedType lo hi width). let a = u.0 in let b = u.1 in let p = pow_pos width in
       let n = natural width x y (omega (arith, ints, i.0)) (omega (arith, ints, j.0)) (omega (arith, ints, i.1)) (omega (arith, ints, j.1)) in (omega (arith, ints, n.0), omega (arith, ints, n.1)))
       (λ (u : IsSignedType lo hi width). let a = u.0 in let b = u.1 in let p = pow_pos (width - 1) in
-      let n = signed (width - 1) x y (record { low = omega (arith, ints, i.0); high = omega (arith, ints, i.1) }) (record { low = omega (arith, ints, j.0); high = omega (arith, ints, j.1) }) in (omega (arith, ints, n.low), omega (arith, ints, n.high)))
+      let n = signed (width - 1) x y (record { low = omega (arith, ints, i.0); high = omega (arith, ints, i.1) })
+      (record { low = omega (arith, ints, j.0); high = omega (arith, ints, j.1) }) in (omega (arith, ints, n.low), omega (arith, ints, n.high)))
       t.2
 
   pub and_within : (x y : ℤ) → IsWithin lo hi x → IsWithin lo hi y → IsWithin lo hi (and_of x y)
@@ -94,13 +96,15 @@ module _ (lo hi : ℤ) (width : ℕ) (t : IsType lo hi width) where
       span : hi +ℤ pos 1 ≡ lo +ℤ pos (2 ^ width)
       span = (range_of_type lo hi width t).span
 
-      by_sign : (b : Bool) → int_lt lo (pos 0) ≡ b → (b ≡ true → wrap lo width (not_of x) ≡ negsuc 0 -ℤ x) → (b ≡ false → wrap lo width (not_of x) ≡ hi -ℤ x) → wrap lo width (not_of x) ≡ cond b (negsuc 0) hi -ℤ x
+      by_sign : (b : Bool) → int_lt lo (pos 0) ≡ b → (b ≡ true → wrap lo width (not_of x) ≡ negsuc 0 -ℤ x) → (b ≡ false → wrap lo width (not_of x) ≡ hi -ℤ x)
+          → wrap lo width (not_of x) ≡ cond b (negsuc 0) hi -ℤ x
       by_sign true e f g = f refl
       by_sign false e f g = g refl
 
 -- ---- all operators
 
-exact_within : (op : Operator) (lo hi : ℤ) (width : ℕ) (x y : ℤ) → IsType lo hi width → IsWithin lo hi x → IsRightOperand op lo hi y → PassesIf (first_check op) op lo hi width x y → PassesIf (second_check op) op lo hi width x y → IsWithin lo hi (exact_of op x y)
+exact_within : (op : Operator) (lo hi : ℤ) (width : ℕ) (x y : ℤ) → IsType lo hi width → IsWithin lo hi x → IsRightOperand op lo hi y → PassesIf (first_check op) op lo hi width x y
+    → PassesIf (second_check op) op lo hi width x y → IsWithin lo hi (exact_of op x y)
 exact_within Add lo hi width x y t i j p q = p
 exact_within Sub lo hi width x y t i j p q = p
 exact_within Mul lo hi width x y t i j p q = p
@@ -118,7 +122,8 @@ exact_is_value op lo hi width x y t i j p q = let e = exact_within op lo hi widt
     (e, choose (λ z. z ≡ exact_of op x y) (is_wrapped op lo) _ _ (λ _. wrap_kept lo hi width t (exact_of op x y) e) (λ _. refl))
 
 -- what isn't brought into the type is there
-unwrapped_within : (op : Operator) (lo hi : ℤ) (width : ℕ) (overflow : Bool) (x y : ℤ) → IsType lo hi width → IsWithin lo hi x → IsRightOperand op lo hi y → (may_end lo overflow (first_check op) ≡ true → PassesIf (first_check op) op lo hi width x y) → is_wrapped op lo ≡ false → IsWithin lo hi (exact_of op x y)
+unwrapped_within : (op : Operator) (lo hi : ℤ) (width : ℕ) (overflow : Bool) (x y : ℤ) → IsType lo hi width → IsWithin lo hi x → IsRightOperand op lo hi y
+    → (may_end lo overflow (first_check op) ≡ true → PassesIf (first_check op) op lo hi width x y) → is_wrapped op lo ≡ false → IsWithin lo hi (exact_of op x y)
 unwrapped_within Add lo hi width overflow x y t i j p e = absurd (false≢true (sym e))
 unwrapped_within Sub lo hi width overflow x y t i j p e = absurd (false≢true (sym e))
 unwrapped_within Mul lo hi width overflow x y t i j p e = absurd (false≢true (sym e))

@@ -8,4 +8,5 @@ returns-else-are_one-2 c =
     let fb = c.ranges.b in
     let fc = c.ranges.c in
     let fd = c.ranges.d in
-    remainders_many c.args.a c.args.b c.args.c c.args.d _ _ _ (simp to_z-of_z at c.are_one.ensures) c.if-are_one.false (simp to_z-of_z at c.are_one-else-are_one.ensures) c.if-are_one-2.false (simp to_z-of_z at c.many_remainders.ensures)
+    remainders_many c.args.a c.args.b c.args.c c.args.d _ _ _ (simp to_z-of_z at c.are_one.ensures) c.if-are_one.false (simp to_z-of_z at c.are_one-else-are_one.ensures) c.if-are_one-2.false
+    (simp to_z-of_z at c.many_remainders.ensures)
