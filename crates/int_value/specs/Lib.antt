@@ -1,4 +1,7 @@
 pub mod Checks
+pub mod Covers
 pub mod Laws
 pub mod Rows
+pub mod Standing
+pub mod Typed
 pub mod Widening

@@ -1,5 +1,5 @@
 -- Results of operators on numbers of a type are numbers of the type.
-use Rattle.std.proofs.Common.{◌≡◌, ℕ, ◌-◌, ◌^◌, ℤ, pos, negsuc, neg_ℤ, ◌+ℤ◌, ◌-ℤ◌, ◌≤ℤ◌, ◌<ℤ◌, unsigned_abs, int_div, int_rem, int_lt, Bool, true, false, cond, refl, sym, ◌∙◌, arith, ⊎_elim}
+use Rattle.std.proofs.Common.{◌≡◌, zero, suc, ℕ, ◌-◌, ◌^◌, ℤ, pos, negsuc, neg_ℤ, ◌+ℤ◌, ◌-ℤ◌, ◌≤ℤ◌, ◌<ℤ◌, unsigned_abs, int_div, int_rem, int_lt, Bool, true, false, cond, refl, sym, ◌∙◌, arith, ⊎_elim}
 use Rattle.std.proofs.lemmas.Int.{ints, clamps, by_lt_z}
 use Rattle.std.proofs.lemmas.Bool.{false≢true}
 use Rattle.std.proofs.Math.Nat.{div-le_self}
@@ -8,7 +8,7 @@ use Rattle.machine_ints.specs.Bits.{not_of, and_of, or_of, xor_of}
 use Rattle.machine_ints.specs.Convert.{IsType, wrap}
 use Rattle.machine_ints.specs.Operators.{IsWithin, PassesDivision, PassesQuotient, PassesIf, shl_of, shr_of, exact_of}
 use Rattle.machine_ints.specs.Operators.{exact_unary, first_check, second_check, may_end, is_wrapped, value_of, unary_value, complement_sum}
-use Rattle.machine_ints.specs.Results.{IsRightOperand, ExactIsValue, ValueIsTyped, UnaryIsTyped, ComplementIs, WrapIsTyped}
+use Rattle.machine_ints.specs.Results.{BoolIsTyped, IsRightOperand, TypedAreOperands, ExactIsValue, ValueIsTyped, UnaryIsTyped, ComplementIs, WrapIsTyped}
 use Rattle.machine_ints.specs.declared.operators.Operator.{Operator}
 use Rattle.machine_ints.specs.declared.operators.Operator.TheVariants.{Add, Sub, Mul, Div, Rem, Shl, Shr, And, Or, Xor}
 use Rattle.machine_ints.proofs.BitLaws.{IsSigned, and_low, or_low, xor_low, and_signed, or_signed, xor_signed, not-is}
@@ -116,6 +116,18 @@ exact_within And lo hi width x y t i j p q = and_within lo hi width t x y i j
 exact_within Or lo hi width x y t i j p q = or_within lo hi width t x y i j
 exact_within Xor lo hi width x y t i j p q = xor_within lo hi width t x y i j
 
+pub typed_are_operands : TypedAreOperands
+typed_are_operands Add lo hi x y i j = tt
+typed_are_operands Sub lo hi x y i j = tt
+typed_are_operands Mul lo hi x y i j = tt
+typed_are_operands Div lo hi x y i j = i
+typed_are_operands Rem lo hi x y i j = i
+typed_are_operands Shl lo hi x y i j = i
+typed_are_operands Shr lo hi x y i j = tt
+typed_are_operands And lo hi x y i j = (i, j)
+typed_are_operands Or lo hi x y i j = (i, j)
+typed_are_operands Xor lo hi x y i j = (i, j)
+
 pub exact_is_value : ExactIsValue
 unfolding value_of
 exact_is_value op lo hi width x y t i j p q = let e = exact_within op lo hi width x y t i j p q in
@@ -151,3 +163,8 @@ complement_value lo hi width x t i = complement_is lo hi width t x i
 
 pub wrap_is_typed : WrapIsTyped
 wrap_is_typed lo hi width z t = (wrap_within lo hi width t z, wrap_kept lo hi width t z)
+
+pub bool_is_typed : BoolIsTyped
+bool_is_typed (pos zero) = (omega (arith, ints), omega (arith, ints))
+bool_is_typed (pos (suc k)) = (omega (arith, ints), omega (arith, ints))
+bool_is_typed (negsuc k) = (omega (arith, ints), omega (arith, ints))

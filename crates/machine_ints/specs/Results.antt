@@ -20,6 +20,24 @@ IsRightOperand And lo hi y = IsWithin lo hi y
 IsRightOperand Or lo hi y = IsWithin lo hi y
 IsRightOperand Xor lo hi y = IsWithin lo hi y
 
+-- what the result asks of the operands, beside the checks: those that it needs are numbers of the type
+abbrev pub AreOperands : Operator → ℤ → ℤ → ℤ → ℤ → Type 0
+AreOperands Add lo hi x y = Unit {0}
+AreOperands Sub lo hi x y = Unit {0}
+AreOperands Mul lo hi x y = Unit {0}
+AreOperands Div lo hi x y = IsWithin lo hi x
+AreOperands Rem lo hi x y = IsWithin lo hi x
+AreOperands Shl lo hi x y = IsWithin lo hi x
+AreOperands Shr lo hi x y = Unit {0}
+AreOperands And lo hi x y = IsWithin lo hi x × IsWithin lo hi y
+AreOperands Or lo hi x y = IsWithin lo hi x × IsWithin lo hi y
+AreOperands Xor lo hi x y = IsWithin lo hi x × IsWithin lo hi y
+
+-- operands of C are such
+abbrev pub TypedAreOperands : Type 0
+TypedAreOperands =
+    (op : Operator) (lo hi x y : ℤ) → IsWithin lo hi x → IsRightOperand op lo hi y → AreOperands op lo hi x y
+
 -- operands that pass both checks, visited or not, have an exact result in the type, and it is the value
 abbrev pub ExactIsValue : Type 0
 ExactIsValue =

@@ -4,6 +4,7 @@ ghost use Rattle.machine_ints.specs.Results.{
   BoolIsTyped,
   ComplementIs,
   ExactIsValue,
+  TypedAreOperands,
   UnaryIsTyped,
   ValueIsTyped,
   WrapIsTyped,
@@ -14,6 +15,7 @@ ghost use Rattle.machine_ints.specs.Results.{
 pub fn results_are_typed()
     ensures exact { ExactIsValue }
     ensures value { ValueIsTyped }
+    ensures operands { TypedAreOperands }
 {}
 
 /// The value of an operator with one operand is in the type; what the complement of a number of the type is.
