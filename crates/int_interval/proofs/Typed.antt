@@ -70,7 +70,7 @@ module _ (shape : Shape) (t : IsShape shape) where
   zero_in : IsWithin shape.lo shape.hi (pos 0)
   zero_in = let r = range_of_type shape.lo shape.hi shape.width t in (r.low, r.high)
 
-  corner_enclosed : (f : ℤ → ℤ → ℤ) (p q r s : ℤ) → IsWithin shape.lo shape.hi (f p r) → IsWithin shape.lo shape.hi (f p s) → IsWithin shape.lo shape.hi (f q r)
+  pub corner_enclosed : (f : ℤ → ℤ → ℤ) (p q r s : ℤ) → IsWithin shape.lo shape.hi (f p r) → IsWithin shape.lo shape.hi (f p s) → IsWithin shape.lo shape.hi (f q r)
       → IsWithin shape.lo shape.hi (f q s) → IsEnclosed shape (corner_cut f p q r s)
   unfolding corner_cut
   corner_enclosed f p q r s i j k l = cut_enclosed (least4 (f p r) (f p s) (f q r) (f q s)) (greatest4 (f p r) (f p s) (f q r) (f q s)) (least (f p r) (f p s) (f q r) (f q s) i j k l)

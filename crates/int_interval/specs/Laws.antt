@@ -1,11 +1,12 @@
 -- What the answers stand for (the soundness of an abstract domain, after Cousot and Cousot).
 use Rattle.std.specs.Prelude.{◌≡◌, ◌≢◌, ◌↔◌, ℤ, pos, ◌≤ℤ◌, IsTrue}
+use Rattle.machine_ints.specs.Bits.{not_of}
 use Rattle.machine_ints.specs.Convert.{wrap}
 use Rattle.machine_ints.specs.Operators.{IsWithin}
 use Rattle.int_interval.specs.declared.shape.Shape.{Shape}
 use Rattle.int_interval.specs.declared.interval.Interval.{Interval}
 use Rattle.int_interval.specs.declared.interval.Interval.TheVariants.{Empty, Within, All}
-use Rattle.int_interval.specs.Rows.{is_empty, contains_row, is_just, join_row, meet_row, included_row, convert_row}
+use Rattle.int_interval.specs.Rows.{is_empty, contains_row, is_just, join_row, meet_row, included_row, not_row, convert_row}
 use Rattle.int_interval.specs.Shapes.{IsShape, IsShift}
 
 -- the interval stands for the number
@@ -31,6 +32,12 @@ abbrev pub CoversBits : (Shape → Interval → Interval → Interval) → (ℤ 
 CoversBits row exact =
     (shape : Shape) (a b : Interval) (x y : ℤ) → IsShape shape → IsWithin shape.lo shape.hi x → IsWithin shape.lo shape.hi y
     → Holds a x → Holds b y → Holds (row shape a b) (exact x y)
+
+-- a complement stands for the complement of each number of the type
+abbrev pub CoversComplement : Type 0
+CoversComplement =
+    (shape : Shape) (a : Interval) (x : ℤ) → IsShape shape → IsWithin shape.lo shape.hi x → Holds a x
+    → Holds (not_row shape a) (wrap shape.lo shape.width (not_of x))
 
 -- a conversion stands for the conversion of each number
 abbrev pub CoversConversion : Type 0

@@ -96,12 +96,12 @@ lacks : (b : Bool) → b ≡ true → not b ≡ true → ⊥
 lacks true e f = false≢true f
 lacks false e f = false≢true e
 
-divisor_right : (a b : Value) (x y : ℤ) → Holds a x → Holds b y → IsRight (divisor_said a b) (PassesDivision y)
+pub divisor_right : (a b : Value) (x y : ℤ) → Holds a x → Holds b y → IsRight (divisor_said a b) (PassesDivision y)
 divisor_right a b x y h k = said_on_right a b x y (not (contains_row b (pos 0))) (interval_rows.is_just b.range (pos 0)) (PassesDivision y) h k
     (λ e z. lacks (contains_row b (pos 0)) (subst (λ n. contains_row b n ≡ true) z (contains_holds b y k)) e)
     (λ e n. n (intervals.just_same b.range (pos 0) y e k.0))
 
-quotient_right : (shape : Shape) (a b : Value) (x y : ℤ) → Holds a x → Holds b y → IsRight (quotient_said shape a b) (PassesQuotient shape.lo x y)
+pub quotient_right : (shape : Shape) (a b : Value) (x y : ℤ) → Holds a x → Holds b y → IsRight (quotient_said shape a b) (PassesQuotient shape.lo x y)
 quotient_right shape a b x y h k = said_on_right a b x y (not (contains_row a shape.lo) || not (contains_row b (negsuc 0)))
     (interval_rows.is_just a.range shape.lo && interval_rows.is_just b.range (negsuc 0)) (PassesQuotient shape.lo x y) h k
     (λ e p q. ⊎_elim (lacks (contains_row a shape.lo) (subst (λ n. contains_row a n ≡ true) p (contains_holds a x h)))
@@ -161,7 +161,7 @@ rem_covers shape overflow a b x y t i h k = let n = remainder_covers a b in divi
 -- ---- shifts
 
 module _ (shape : Shape) (a b : Value) (x y : ℤ) (h : Holds a x) (k : Holds b y) where
-  shift_right : IsRight (shift_said shape a b) (PassesShift shape.width y)
+  pub shift_right : IsRight (shift_said shape a b) (PassesShift shape.width y)
   shift_right = by_test (interval_rows.is_empty a.range) (not_empty a.range x h.0) (within_said (pos 0) (pos shape.width -ℤ pos 1) b.range)
       (within_right (pos 0) (pos shape.width -ℤ pos 1) b.range y k.0)
     where
@@ -175,10 +175,10 @@ module _ (shape : Shape) (a b : Value) (x y : ℤ) (h : Holds a x) (k : Holds b 
       by_test true e s p = absurd (false≢true (sym e))
       by_test false e s p = turned s p
 
-  shift_holds : PassesShift shape.width y → Holds (shift_of shape b) y
+  pub shift_holds : PassesShift shape.width y → Holds (shift_of shape b) y
   shift_holds p = meet_holds b (shift_range shape) y k (p.0, omega (arith, ints, p.1))
 
-  whole_holds : PassesShift shape.width y → Holds (shl_raw a (shift_of shape b)) (shl_of x y)
+  pub whole_holds : PassesShift shape.width y → Holds (shl_raw a (shift_of shape b)) (shl_of x y)
   unfolding shl_raw
   whole_holds p = let s = shift_holds p in parts_hold interval_rows.shl_row congr_rows.shl_row a (shift_of shape b) (shl_of x y)
       (intervals.shl_holds shape a.range (shift_of shape b).range x y (shift_parts shape b (shift_of shape b) refl).0 h.0 s.0) (congrs.shl_holds a.congr (shift_of shape b).congr x y h.1 s.1)
@@ -200,12 +200,12 @@ part_holds : (shape : Shape) (a b : Value) (x y : ℤ) → Holds a x → Holds b
     → Holds (shl_raw (clipped shape a) (shift_of shape b)) (shl_of x y)
 part_holds shape a b x y h k l m p = whole_holds shape (clipped shape a) b x y (meet_holds a (Within (pos 0) shape.hi) x h (l, m)) k p
 
-starts_above : (lo : ℤ) (r : Interval) (z : ℤ) → starts_at lo r ≡ true → interval_laws.Holds r z → lo ≤ℤ z
+pub starts_above : (lo : ℤ) (r : Interval) (z : ℤ) → starts_at lo r ≡ true → interval_laws.Holds r z → lo ≤ℤ z
 starts_above lo Empty z e h = absurd h
 starts_above lo (Within a b) z e h = omega (arith, ints, h.0)
 starts_above lo All z e h = absurd (false≢true e)
 
-ends_below : (hi : ℤ) (r : Interval) (z : ℤ) → ends_at hi r ≡ true → interval_laws.Holds r z → z ≤ℤ hi
+pub ends_below : (hi : ℤ) (r : Interval) (z : ℤ) → ends_at hi r ≡ true → interval_laws.Holds r z → z ≤ℤ hi
 ends_below hi Empty z e h = absurd h
 ends_below hi (Within a b) z e h = omega (arith, ints, h.1)
 ends_below hi All z e h = absurd (false≢true e)

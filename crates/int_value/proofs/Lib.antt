@@ -6,3 +6,4 @@ pub mod Included
 pub mod Members
 pub mod Widened
 pub mod Checked
+pub mod Decides

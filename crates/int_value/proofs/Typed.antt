@@ -1,5 +1,6 @@
 -- Answers are reduced, and values of a type keep to it.
 use Rattle.std.proofs.Common.{◌≡◌, ◌<◌, ℤ, pos, ◌-ℤ◌, ◌≤ℤ◌, ◌<ℤ◌, int_le, int_lt, Bool, false, not, ◌||◌, refl, subst, sym, arith, inl}
+use Rattle.std.specs.Int.{int_min, int_max}
 use Rattle.std.proofs.lemmas.Int.{ints}
 use Rattle.std.proofs.lemmas.Bool.{eqb-false}
 use Rattle.machine_ints.specs.Bound.{is_small}
@@ -106,6 +107,16 @@ join_typed shape a b t u v = answer_typed shape (interval_rows.join_row a.range 
 pub meet_typed : MeetIsTyped
 unfolding meet_row
 meet_typed shape v range u = range_typed shape (interval_rows.meet_row v.range range) v.congr v.unset (meet_enclosed shape v.range range (typed_enclosed shape v.range u.0)) (normal_of v u.1)
+
+pub meet_within_reduced : (v : Value) (lo hi : ℤ) → congr_laws.IsNormal v.congr → IsReduced (meet_row v (Within lo hi))
+unfolding meet_row interval_rows.meet_row
+meet_within_reduced v lo hi n = by_range v.range
+  where
+    by_range : (r : Interval) → IsReduced (reduced_range (interval_rows.meet_row r (Within lo hi)) v.congr v.unset)
+    by_range Empty = refl
+    by_range (Within p q) = choose (λ i. IsReduced (reduced_range i v.congr v.unset)) (int_le (int_max p lo) (int_min q hi)) (Within (int_max p lo) (int_min q hi)) Empty
+        (λ _. reduced_is (int_max p lo) (int_min q hi) v.congr v.unset n) (λ _. refl)
+    by_range All = reduced_is lo hi v.congr v.unset n
 
 meet_type_typed : (shape : Shape) (v : Value) → congr_laws.IsNormal v.congr → IsTyped shape (meet_row v (type_range shape))
 unfolding meet_row

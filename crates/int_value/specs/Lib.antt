@@ -1,5 +1,6 @@
 pub mod Checks
 pub mod Covers
+pub mod Decides
 pub mod Laws
 pub mod Rows
 pub mod Standing

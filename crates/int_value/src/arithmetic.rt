@@ -291,7 +291,8 @@ fn divided(left: &Value, right: &Value, exact: &Value, shape: &Shape, overflow: 
 /// What the check of overflow leaves of the exact value: nothing where it fails for all, else what is in the type.
 fn left_by(said: Said, exact: &Value, shape: &Shape) -> Value
     requires { IsReduced exact.now }
-    ensures { result ≡ (if is_no said then empty_of false else meet_row exact.now (type_range shape.now)) }
+    ensures { result ≡ (if is_no said then empty_of false
+        else meet_row exact.now (type_range shape.now)) }
 {
     match said {
         Said::No => empty(false),
@@ -316,7 +317,8 @@ fn met_with_type(exact: &Value, shape: &Shape) -> Value
 
 fn if_signed(exact: &Value, shape: &Shape) -> Value
     requires { IsShape shape.now }
-    ensures { result ≡ (if is_signed shape.now then convert_row shape.now exact.now else exact.now) }
+    ensures { result ≡ (if is_signed shape.now then convert_row shape.now exact.now
+        else exact.now) }
 {
     if shape.lo < 0 {
         exact.convert(shape)

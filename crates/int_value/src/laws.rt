@@ -20,6 +20,7 @@ ghost use Rattle.int_value.specs.Covers.{
   CoversOperator,
   CoversUnary,
 };
+ghost use Rattle.int_value.specs.Decides.{DecidesFirst, DecidesSecond, DecidesUnary};
 ghost use Rattle.int_value.specs.Laws.{
   ContainsIsMember,
   CoversBool,
@@ -176,4 +177,24 @@ pub fn whole_type_includes()
 pub fn relations_are_true()
     ensures relations { RelationsAreRight }
     ensures within { WithinIsRight }
+{}
+
+/// A mark of a first check says yes exactly where every choice of numbers of the operands passes the check, of values
+/// that have a least and a greatest number.
+pub fn marks_decide()
+    ensures neg { DecidesUnary UnaryOperator.Negate neg_row }
+    ensures add { DecidesFirst Operator.Add add_row }
+    ensures sub { DecidesFirst Operator.Sub sub_row }
+    ensures mul { DecidesFirst Operator.Mul mul_row }
+    ensures div { DecidesFirst Operator.Div div_row }
+    ensures rem { DecidesFirst Operator.Rem rem_row }
+    ensures shl { DecidesFirst Operator.Shl shl_row }
+    ensures shr { DecidesFirst Operator.Shr shr_row }
+{}
+
+/// So does a mark of a second check, of operands that pass the first one.
+pub fn second_marks_decide()
+    ensures div { DecidesSecond Operator.Div div_row }
+    ensures rem { DecidesSecond Operator.Rem rem_row }
+    ensures shl { DecidesSecond Operator.Shl shl_row }
 {}

@@ -39,7 +39,8 @@ impl Value {
     }
 
     fn rest_included(&self, other: &Value) -> bool
-        ensures { result ≡ (congr_within self.now other.now && unset_within self.now.unset other.now.unset) }
+        ensures { result ≡
+            (congr_within self.now other.now && unset_within self.now.unset other.now.unset) }
     {
         self.congr_included(other) && (!self.unset || other.unset)
     }

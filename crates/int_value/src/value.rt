@@ -174,7 +174,8 @@ fn is_from_to(number: i128, lo: i128, hi: i128) -> bool
 
 fn reduced_between(lo: i128, hi: i128, congr: Congr) -> (Interval, Congr)
     requires { is_only congr ≡ false }
-    ensures { value_of result.0 result.1 false ≡ between (raised_to congr lo) (lowered_to congr hi) congr false }
+    ensures { value_of result.0 result.1 false
+        ≡ between (raised_to congr lo) (lowered_to congr hi) congr false }
 {
     match raised(lo, congr) {
         None => nothing(),

@@ -94,7 +94,7 @@ module _ (t : Ends) (width : ℕ) (is_type : IsType t.lo t.hi width) where
           let v = true_both (a.lo *ℤ b.lo) (a.lo *ℤ b.hi) u.0 in let w = true_both (a.hi *ℤ b.lo) (a.hi *ℤ b.hi) u.1 in
           between (a.lo *ℤ b.lo) (a.lo *ℤ b.hi) (a.hi *ℤ b.lo) (a.hi *ℤ b.hi) (x *ℤ y) v.0 v.1 w.0 w.1 (cornered_mul a.lo a.hi b.lo b.hi x y i.0 i.1 j.0 j.1),
       λ all. and_from _ _ (both_true (a.lo *ℤ b.lo) (a.lo *ℤ b.hi) (all a.lo b.lo low low') (all a.lo b.hi low high'))
-      (both_true (a.hi *ℤ b.lo) (a.hi *ℤ b.hi) (all a.hi b.lo high low') (all a.hi b.hi high high')),
+          (both_true (a.hi *ℤ b.lo) (a.hi *ℤ b.hi) (all a.hi b.lo high low') (all a.hi b.hi high high')),
     )
       where
         between : (p q r s z : ℤ) → IsAmong t p → IsAmong t q → IsAmong t r → IsAmong t s → Cornered p q r s z → IsAmong t z
@@ -104,7 +104,7 @@ module _ (t : Ends) (width : ℕ) (is_type : IsType t.lo t.hi width) where
     quotient_decides = (
       λ e x y i j p q. lacks (is_among a t.lo && is_among b (negsuc 0)) (and_from _ _ (among_true a t.lo (subst (IsAmong a) p i)) (among_true b (negsuc 0) (subst (IsAmong b) q j))) e,
       λ all. not_from (is_among a t.lo && is_among b (negsuc 0))
-      (λ e. let u = and_parts (is_among a t.lo) (is_among b (negsuc 0)) e in all t.lo (negsuc 0) (true_among a t.lo u.0) (true_among b (negsuc 0) u.1) refl refl),
+          (λ e. let u = and_parts (is_among a t.lo) (is_among b (negsuc 0)) e in all t.lo (negsuc 0) (true_among a t.lo u.0) (true_among b (negsuc 0) u.1) refl refl),
     )
 
     divisor_decides : Decides (not (is_among b (pos 0))) (λ x y. y ≢ pos 0)
@@ -117,7 +117,7 @@ module _ (t : Ends) (width : ℕ) (is_type : IsType t.lo t.hi width) where
     shift_decides = (
       λ e x y i j. let u = and_parts (int_le (pos 0) b.lo) (int_lt b.hi (pos width)) e in let l = u.0 in let m = u.1 in (omega (arith, ints, j.0), omega (arith, ints, j.1)),
       λ all. let l = (all a.lo b.lo low low').0 in let m = (all a.lo b.hi low high').1 in
-      and_from (int_le (pos 0) b.lo) (int_lt b.hi (pos width)) (sym (omega (arith, ints))) (sym (omega (arith, ints))),
+          and_from (int_le (pos 0) b.lo) (int_lt b.hi (pos width)) (sym (omega (arith, ints))) (sym (omega (arith, ints))),
     )
 
     farthest : (P : ℕ → Type 0) → P (unsigned_abs b.lo) → P (unsigned_abs b.hi) → P (reach b)

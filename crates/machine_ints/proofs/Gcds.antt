@@ -28,8 +28,11 @@ gcd_last a b g (d, e, all) = (top, inr (and_from _ _ (true-divides g a d) (true-
     positive_in h = ⊎_elim (λ (p : 0 < a). positive g a p d) (λ (p : a ≤ 0). positive g b (omega arith) e) (cases_lt 0 a)
 
     none : a ≡ 0 → b ≡ 0 → g ≤ max a b
-    none z y = ⊎_elim (λ (p : 0 < g). absurd (omega (arith, le_of_dvd p
-        (all (suc g) (subst (λ n. suc g ∣ n) (sym z) (dvd-zero (suc g))) (subst (λ n. suc g ∣ n) (sym y) (dvd-zero (suc g))))))) (λ (p : g ≤ 0). omega arith) (cases_lt 0 g)
+    none z y = ⊎_elim (λ (p : 0 < g). absurd (omega (
+      arith,
+      le_of_dvd p
+          (all (suc g) (subst (λ n. suc g ∣ n) (sym z) (dvd-zero (suc g))) (subst (λ n. suc g ∣ n) (sym y) (dvd-zero (suc g)))),
+    ))) (λ (p : g ≤ 0). omega arith) (cases_lt 0 g)
 
     top : g ≤ max a b
     top = ⊎_elim (λ (p : 0 < a). omega (arith, within g a p d))

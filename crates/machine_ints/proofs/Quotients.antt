@@ -33,9 +33,6 @@ quot-neg : (x : ℤ) (n : ℕ) → int_div x (negsuc n) ≡ neg_ℤ (int_div x (
 quot-neg (pos a) n = refl
 quot-neg (negsuc a) n = sym (neg_ℤ-neg_ℤ (pos (suc a / suc n)))
 
-flipped : (p q z : ℤ) → Spanned p q z → Spanned (neg_ℤ q) (neg_ℤ p) (neg_ℤ z)
-flipped p q z s = record { low = omega (arith, ints, clamps, s.low, s.high); high = omega (arith, ints, clamps, s.low, s.high) }
-
 -- the divisors from c to d are not 0
 quot_cornered : (a b x : ℤ) (c d n : ℕ) → a ≤ℤ x → x ≤ℤ b → 0 < c → c ≤ n → n ≤ d → Cornered (int_div a (pos c)) (int_div a (pos d)) (int_div b (pos c)) (int_div b (pos d)) (int_div x (pos n))
 quot_cornered a b x c d n h k p f g = cornered _ _ _ _ _ _ _ (rising _ _ _ (quot_le a x n h) (quot_le x b n k)) (quot_span a c d n p f g) (quot_span b c d n p f g)
