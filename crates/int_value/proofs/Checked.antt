@@ -25,10 +25,10 @@ use Rattle.int_congr.specs.Rows as congr_rows
 use Rattle.int_value.specs.Checks.{made_of, said_of, said_on, within_said, is_checked, typed_row, neg_row, add_row, sub_row, mul_row, divisor_said, quotient_said, is_no, divided_row, div_row}
 use Rattle.int_value.specs.Checks.{rem_row, shift_range, shift_of, shift_said, starts_at, ends_at, lies_below, lies_above}
 use Rattle.int_value.specs.Checks.{clipped, shl_said, shl_row, shr_row, invert_row, bit_and_row, bit_or_row, bit_xor_row}
-use Rattle.int_value.specs.Covers.{Visit, Covered, visit_of, CoversOperator, CoversUnary}
+use Rattle.int_value.specs.Covers.{Visit, Covered, visit_of, CoversOperator, CoversAnyDivisor, CoversUnary}
 use Rattle.int_value.specs.Rows.{empty_of, contains_row, meet_row, convert_row, type_range, negation_row, sum_row, difference_row}
 use Rattle.int_value.specs.Rows.{product_row, quotient_row, remainder_row, shl_raw, shr_raw, not_raw, and_raw, or_raw, xor_raw}
-use Rattle.int_value.specs.Standing.{Holds, HasValue, IsRight}
+use Rattle.int_value.specs.Standing.{Holds, HasValue, IsRight, IsMark}
 use Rattle.int_value.specs.declared.value.Value.{Value}
 use Rattle.int_value.proofs.Cover.{not_empty, contains_holds, meet_holds, meet_unset, convert_holds, convert_set, answer_holds, answer_set, parts_hold}
 use Rattle.int_value.proofs.Cover.{parts_set, said_right, within_right, negation_covers, sum_covers, difference_covers, product_covers, quotient_covers, remainder_covers}
@@ -157,6 +157,46 @@ pub rem_covers : CoversOperator Rem rem_row
 unfolding rem_row value_of
 rem_covers shape overflow a b x y t i h k = let n = remainder_covers a b in divided_covered shape overflow a b (remainder_row a b) x y (int_rem x y) t h k n.0 (n.1 x y h k)
     (λ _ p _. remainder_within shape.lo shape.hi shape.width t x y i p)
+
+-- of any divisor
+divided_mark : (shape : Shape) (overflow : Bool) (a b exact : Value) (x y : ℤ) → Holds a x → Holds b y
+    → IsMark (is_checked shape overflow) (divided_row shape overflow a b exact).second (PassesQuotient shape.lo x y)
+unfolding divided_row
+divided_mark shape overflow a b exact x y h k = by_check (is_checked shape overflow)
+  where
+    left : Value
+    left = cond (is_no (quotient_said shape a b)) (empty_of false) (meet_row exact (type_range shape))
+
+    by_check : (c : Bool) → IsMark c (cond c (made_of left (Some (divisor_said a b)) (Some (quotient_said shape a b)))
+        (made_of (cond (is_signed shape) (convert_row shape exact) exact) (Some (divisor_said a b)) None)).second (PassesQuotient shape.lo x y)
+    by_check true = quotient_right shape a b x y h k
+    by_check false = tt
+
+pub div_any : CoversAnyDivisor Div div_row
+unfolding div_row value_of
+div_any shape overflow a b x y t i h k = (
+  divided_mark shape overflow a b (quotient_row a b) x y h k,
+  λ v n q.
+      subst (λ z. Holds (divided_row shape overflow a b (quotient_row a b)).value z) (same n q)
+      ((div_covers shape overflow a b x y t i h k).value (λ _. n) (λ _. q)),
+)
+  where
+    same : PassesDivision y → PassesQuotient shape.lo x y → cond (int_lt shape.lo (pos 0)) (wrap shape.lo shape.width (int_div x y)) (int_div x y) ≡ int_div x y
+    same n q = choose (λ z. z ≡ int_div x y) (int_lt shape.lo (pos 0)) _ _
+        (λ s. wrap_kept shape.lo shape.hi shape.width t (int_div x y) (signed_quotient shape.lo shape.hi shape.width t x y (signed shape s) i n q)) (λ _. refl)
+
+pub rem_any : CoversAnyDivisor Rem rem_row
+unfolding rem_row value_of
+rem_any shape overflow a b x y t i h k = (
+  divided_mark shape overflow a b (remainder_row a b) x y h k,
+  λ v n q.
+      subst (λ z. Holds (divided_row shape overflow a b (remainder_row a b)).value z) (same n)
+      ((rem_covers shape overflow a b x y t i h k).value (λ _. n) (λ _. q)),
+)
+  where
+    same : PassesDivision y → cond (int_lt shape.lo (pos 0)) (wrap shape.lo shape.width (int_rem x y)) (int_rem x y) ≡ int_rem x y
+    same n = choose (λ z. z ≡ int_rem x y) (int_lt shape.lo (pos 0)) _ _
+        (λ s. wrap_kept shape.lo shape.hi shape.width t (int_rem x y) (remainder_within shape.lo shape.hi shape.width t x y i n)) (λ _. refl)
 
 -- ---- shifts
 

@@ -1,8 +1,10 @@
 -- What C's operators with their checks stand for: one form for all of them.
 use Rattle.std.specs.Prelude.{◌≡◌, ℤ, Bool, true, Option, Some, None}
-use Rattle.machine_ints.specs.Operators.{IsWithin, PassesIf, PassesUnaryIf, first_check, second_check, unary_check, is_visited_if, may_end, value_of, unary_value}
+use Rattle.machine_ints.specs.Operators.{IsWithin, PassesDivision, PassesQuotient, PassesIf, PassesUnaryIf, first_check, second_check}
+use Rattle.machine_ints.specs.Operators.{unary_check, is_visited, is_visited_if, may_end, exact_of, value_of, unary_value}
 use Rattle.machine_ints.specs.Results.{AreOperands}
 use Rattle.machine_ints.specs.declared.operators.Check.{Check}
+use Rattle.machine_ints.specs.declared.operators.Check.TheVariants.{Overflow}
 use Rattle.machine_ints.specs.declared.operators.Operator.{Operator}
 use Rattle.machine_ints.specs.declared.operators.UnaryOperator.{UnaryOperator}
 use Rattle.machine_ints.specs.declared.operators.UnaryOperator.TheVariants.{Negate, Complement}
@@ -38,6 +40,16 @@ CoversOperator op row =
     (PassesIf (first_check op) op shape.lo shape.hi shape.width x y)
     (PassesIf (second_check op) op shape.lo shape.hi shape.width x y)
     (value_of op shape.lo shape.width x y) (row shape overflow a b)
+
+-- of `/` and `%` the divisor may be any number: the mark of the second check is right whether or not the first one
+-- passes, and where both pass and are visited the value stands for the exact result
+abbrev pub CoversAnyDivisor : Operator → (Shape → Bool → Value → Value → Made) → Type 0
+CoversAnyDivisor op row =
+    (shape : Shape) (overflow : Bool) (a b : Value) (x y : ℤ) → IsShape shape → IsWithin shape.lo shape.hi x
+    → Stands a (Some x) → Stands b (Some y)
+    → IsMark (is_visited shape.lo overflow Overflow) (row shape overflow a b).second (PassesQuotient shape.lo x y)
+    × (is_visited shape.lo overflow Overflow ≡ true → PassesDivision y → PassesQuotient shape.lo x y
+    → Stands (row shape overflow a b).value (Some (exact_of op x y)))
 
 -- the complement is of numbers of the type
 abbrev pub IsUnaryOperand : UnaryOperator → ℤ → ℤ → ℤ → Type 0

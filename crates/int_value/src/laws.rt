@@ -17,6 +17,7 @@ ghost use Rattle.int_value.specs.Checks.{
   sub_row,
 };
 ghost use Rattle.int_value.specs.Covers.{
+  CoversAnyDivisor,
   CoversOperator,
   CoversUnary,
 };
@@ -134,7 +135,14 @@ pub fn operators_cover()
     ensures xor { CoversOperator Operator.Xor bit_xor_row }
 {}
 
-/// The same of the operators with one operand.
+/// Of `/` and `%` by any number, of the type or not: the mark of the second check is right, and where both checks pass
+/// and are visited the value stands for the exact result.
+pub fn division_covers()
+    ensures div { CoversAnyDivisor Operator.Div div_row }
+    ensures rem { CoversAnyDivisor Operator.Rem rem_row }
+{}
+
+/// What `operators_cover` says, of the operators with one operand.
 pub fn unary_operators_cover()
     ensures neg { CoversUnary UnaryOperator.Negate neg_row }
     ensures invert { CoversUnary UnaryOperator.Complement invert_row }

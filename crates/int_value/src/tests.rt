@@ -314,6 +314,7 @@ fn widening(rt: HostRuntime) {
     terms_cover();
     terms_are_reduced();
     operators_cover();
+    division_covers();
     unary_operators_cover();
     typed_values_are_closed();
     operators_are_closed();
