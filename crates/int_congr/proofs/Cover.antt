@@ -1,5 +1,6 @@
 -- What the answers stand for, operator by operator.
-use Rattle.std.proofs.Common.{◌≡◌, ℕ, ◌^◌, ◌<◌, ℤ, pos, neg_ℤ, ◌+ℤ◌, ◌-ℤ◌, ◌*ℤ◌, unsigned_abs, nat_eq, nat_le, int_div, int_rem, IsTrue, Some, None, Bool, true, false, cond, ◌&&◌, refl, ap, subst, ◌∙◌, sym, arith}
+use Rattle.std.proofs.Common.{◌≡◌, ℕ, ◌^◌, ◌<◌, ℤ, pos, neg_ℤ, ◌+ℤ◌, ◌-ℤ◌, ◌*ℤ◌, unsigned_abs, nat_eq, nat_le, int_div}
+use Rattle.std.proofs.Common.{int_rem, IsTrue, Some, None, Bool, true, false, cond, ◌&&◌, ap, subst, ◌∙◌, sym, arith}
 use Rattle.std.proofs.lemmas.Int.{ints, unsigned_abs-mul}
 use Rattle.std.proofs.lemmas.Bool.{and_parts, and_from, eqb-true, eqb-false}
 use lib.IntN.{*ℤ-zero}
@@ -8,20 +9,19 @@ use Rattle.machine_ints.specs.Bound.{is_small, bounded}
 use Rattle.machine_ints.specs.Convert.{wrap}
 use Rattle.machine_ints.specs.Divisors.{divides, gcd_of, residue_of, IsMultiple}
 use Rattle.machine_ints.specs.Operators.{shl_of, shr_of}
-use Rattle.machine_ints.proofs.Congruences.{multiple_add, multiple_sub, multiple_neg, multiple_trans, multiple-divides, multiple_one, multiple_left, multiple_right, multiple_self, multiple_times, product_gap}
+use Rattle.machine_ints.proofs.Choices.{choose}
+use Rattle.machine_ints.proofs.Congruences.{multiple_add, multiple_sub, multiple_neg, multiple_trans, multiple-divides}
+use Rattle.machine_ints.proofs.Congruences.{multiple_one, multiple_left, multiple_right, multiple_self, multiple_times, product_gap}
 use Rattle.machine_ints.proofs.Conversions.{wrap_multiple}
 use Rattle.machine_ints.proofs.Residues.{residue_split}
+use Rattle.machine_ints.proofs.Results.{complement_is}
 use Rattle.int_interval.specs.Shapes.{top_of}
-use Rattle.int_interval.proofs.Cover.{complement_is}
 use Rattle.int_congr.specs.declared.congr.Congr.{Congr}
 use Rattle.int_congr.specs.Laws.{Holds, Covers, ContainsIsMember, JoinIsUpper, IncludedIsSubset, MeetsIfCommon, CoversComplement, CoversConversion}
-use Rattle.int_congr.specs.Rows.{unknown_of, only, modulo, modulo_period, congr_of, period, is_only, by_only, join_from, join_row, included_row, negative_row, sum_row, difference_row, product_from, product_row, is_zero, quotient_row, remainder_row, shl_row, shr_row, and_row, or_row, xor_row}
+use Rattle.int_congr.specs.Rows.{unknown_of, only, modulo, modulo_period, congr_of, period, is_only, by_only, join_from, join_row, included_row, contains_row, may_meet, not_row}
+use Rattle.int_congr.specs.Rows.{convert_row, negative_row, sum_row, difference_row, product_from, product_row, is_zero, quotient_row, remainder_row, shl_row, shr_row, and_row, or_row, xor_row}
 
 -- ---- forms
-
-choose : (P : Congr → Type 0) (b : Bool) (s t : Congr) → (b ≡ true → P s) → (b ≡ false → P t) → P (cond b s t)
-choose P true s t f g = f refl
-choose P false s t f g = g refl
 
 -- a multiple, by another name of the number
 pub renamed : (m x y : ℤ) → x ≡ y → IsMultiple m x → IsMultiple m y
@@ -31,7 +31,8 @@ period_holds : (r z : ℤ) (m : ℕ) → 0 < m → IsMultiple (pos m) (z -ℤ r)
 period_holds r z m h k =
     let s = residue_split r m h in
     choose (λ c. Holds c z) (nat_le m (2 ^ 126)) _ _
-    (λ _. renamed (pos m) ((z -ℤ r) +ℤ (r -ℤ pos (residue_of r m))) (z -ℤ pos (residue_of r m)) (omega (arith, ints)) (multiple_add (pos m) (z -ℤ r) (r -ℤ pos (residue_of r m)) k (s.0, omega (arith, ints, s.1))))
+    (λ _. renamed (pos m) ((z -ℤ r) +ℤ (r -ℤ pos (residue_of r m))) (z -ℤ pos (residue_of r m)) (omega (arith, ints))
+    (multiple_add (pos m) (z -ℤ r) (r -ℤ pos (residue_of r m)) k (s.0, omega (arith, ints, s.1))))
     (λ _. multiple_one (z -ℤ pos 0))
 
 pub congr_holds : (r z : ℤ) (m : ℕ) → IsMultiple (pos m) (z -ℤ r) → Holds (congr_of r m) z
@@ -62,9 +63,11 @@ only_holds f exact g a b x y h k = choose (λ c. Holds c (exact x y)) (is_only a
 -- ---- sets
 
 pub contains_member : ContainsIsMember
+unfolding contains_row
 contains_member c z = multiple-divides (period c) (z -ℤ c.rem)
 
 join_within : (a b : Congr) (z : ℤ) → IsMultiple (pos (gcd_of (period a) (gcd_of (period b) (unsigned_abs (a.rem -ℤ b.rem))))) (z -ℤ a.rem) → Holds (join_row a b) z
+unfolding join_row
 join_within a b z k = by_size (is_small (a.rem -ℤ b.rem))
   where
     by_size : (c : Bool) → Holds (join_from (cond c (Some (a.rem -ℤ b.rem)) None) a b) z
@@ -86,24 +89,30 @@ join_upper a b z = (
     rest = gcd_of (period b) (unsigned_abs far)
 
 pub included_subset : IncludedIsSubset
+unfolding included_row
 included_subset a b = (there, back)
   where
     there : IsTrue (included_row a b) → (z : ℤ) → Holds a z → Holds b z
     there e z h =
         let t = and_parts (divides (period b) (period a)) (divides (period b) (unsigned_abs (a.rem -ℤ b.rem))) e in
         let m = multiple_trans (pos (period b)) (pos (period a)) (z -ℤ a.rem) ((multiple-divides (period b) (pos (period a))).0 t.0) h in
-        renamed (pos (period b)) ((z -ℤ a.rem) +ℤ (a.rem -ℤ b.rem)) (z -ℤ b.rem) (omega (arith, ints)) (multiple_add (pos (period b)) (z -ℤ a.rem) (a.rem -ℤ b.rem) m ((multiple-divides (period b) (a.rem -ℤ b.rem)).0 t.1))
+        renamed (pos (period b)) ((z -ℤ a.rem) +ℤ (a.rem -ℤ b.rem)) (z -ℤ b.rem) (omega (arith, ints))
+        (multiple_add (pos (period b)) (z -ℤ a.rem) (a.rem -ℤ b.rem) m ((multiple-divides (period b) (a.rem -ℤ b.rem)).0 t.1))
 
     back : ((z : ℤ) → Holds a z → Holds b z) → IsTrue (included_row a b)
     back f =
         let first : IsMultiple (pos (period b)) (a.rem -ℤ b.rem) = f a.rem (itself (pos (period a)) a.rem) in
         let next : IsMultiple (pos (period b)) (a.rem +ℤ pos (period a) -ℤ b.rem) = f (a.rem +ℤ pos (period a)) (pos 1, omega (arith, ints)) in
         and_from _ _
-        ((multiple-divides (period b) (pos (period a))).1 (renamed (pos (period b)) ((a.rem +ℤ pos (period a) -ℤ b.rem) -ℤ (a.rem -ℤ b.rem)) (pos (period a)) (omega (arith, ints)) (multiple_sub (pos (period b)) (a.rem +ℤ pos (period a) -ℤ b.rem) (a.rem -ℤ b.rem) next first)))
+        ((multiple-divides (period b) (pos (period a))).1 (renamed (pos (period b)) ((a.rem +ℤ pos (period a) -ℤ b.rem) -ℤ (a.rem -ℤ b.rem)) (pos (period a)) (omega (arith, ints))
+        (multiple_sub (pos (period b)) (a.rem +ℤ pos (period a) -ℤ b.rem) (a.rem -ℤ b.rem) next first)))
         ((multiple-divides (period b) (a.rem -ℤ b.rem)).1 first)
 
 pub meets_common : MeetsIfCommon
-meets_common a b z h k = (multiple-divides g (a.rem -ℤ b.rem)).1 (renamed (pos g) ((z -ℤ b.rem) -ℤ (z -ℤ a.rem)) (a.rem -ℤ b.rem) (omega (arith, ints)) (multiple_sub (pos g) (z -ℤ b.rem) (z -ℤ a.rem) (multiple_right (period a) (period b) (z -ℤ b.rem) k) (multiple_left (period a) (period b) (z -ℤ a.rem) h)))
+unfolding may_meet
+meets_common a b z h k = (multiple-divides g (a.rem -ℤ b.rem)).1
+    (renamed (pos g) ((z -ℤ b.rem) -ℤ (z -ℤ a.rem)) (a.rem -ℤ b.rem) (omega (arith, ints))
+    (multiple_sub (pos g) (z -ℤ b.rem) (z -ℤ a.rem) (multiple_right (period a) (period b) (z -ℤ b.rem) k) (multiple_left (period a) (period b) (z -ℤ a.rem) h)))
   where
     g : ℕ
     g = gcd_of (period a) (period b)
@@ -111,16 +120,23 @@ meets_common a b z h k = (multiple-divides g (a.rem -ℤ b.rem)).1 (renamed (pos
 -- ---- arithmetic
 
 pub negative_holds : (a : Congr) (x : ℤ) → Holds a x → Holds (negative_row a) (neg_ℤ x)
+unfolding negative_row
 negative_holds a x h = congr_holds (neg_ℤ a.rem) (neg_ℤ x) (period a) (renamed _ (neg_ℤ (x -ℤ a.rem)) _ (omega (arith, ints)) (multiple_neg (pos (period a)) (x -ℤ a.rem) h))
 
 pub sum_holds : Covers sum_row ◌+ℤ◌
-sum_holds a b x y h k = congr_holds (a.rem +ℤ b.rem) (x +ℤ y) g (renamed (pos g) ((x -ℤ a.rem) +ℤ (y -ℤ b.rem)) ((x +ℤ y) -ℤ (a.rem +ℤ b.rem)) (omega (arith, ints)) (multiple_add (pos g) (x -ℤ a.rem) (y -ℤ b.rem) (multiple_left (period a) (period b) (x -ℤ a.rem) h) (multiple_right (period a) (period b) (y -ℤ b.rem) k)))
+unfolding sum_row
+sum_holds a b x y h k = congr_holds (a.rem +ℤ b.rem) (x +ℤ y) g
+    (renamed (pos g) ((x -ℤ a.rem) +ℤ (y -ℤ b.rem)) ((x +ℤ y) -ℤ (a.rem +ℤ b.rem)) (omega (arith, ints))
+    (multiple_add (pos g) (x -ℤ a.rem) (y -ℤ b.rem) (multiple_left (period a) (period b) (x -ℤ a.rem) h) (multiple_right (period a) (period b) (y -ℤ b.rem) k)))
   where
     g : ℕ
     g = gcd_of (period a) (period b)
 
 pub difference_holds : Covers difference_row ◌-ℤ◌
-difference_holds a b x y h k = congr_holds (a.rem -ℤ b.rem) (x -ℤ y) g (renamed (pos g) ((x -ℤ a.rem) -ℤ (y -ℤ b.rem)) ((x -ℤ y) -ℤ (a.rem -ℤ b.rem)) (omega (arith, ints)) (multiple_sub (pos g) (x -ℤ a.rem) (y -ℤ b.rem) (multiple_left (period a) (period b) (x -ℤ a.rem) h) (multiple_right (period a) (period b) (y -ℤ b.rem) k)))
+unfolding difference_row
+difference_holds a b x y h k = congr_holds (a.rem -ℤ b.rem) (x -ℤ y) g
+    (renamed (pos g) ((x -ℤ a.rem) -ℤ (y -ℤ b.rem)) ((x -ℤ y) -ℤ (a.rem -ℤ b.rem)) (omega (arith, ints))
+    (multiple_sub (pos g) (x -ℤ a.rem) (y -ℤ b.rem) (multiple_left (period a) (period b) (x -ℤ a.rem) h) (multiple_right (period a) (period b) (y -ℤ b.rem) k)))
   where
     g : ℕ
     g = gcd_of (period a) (period b)
@@ -130,6 +146,7 @@ times : (m n x y : ℤ) → IsMultiple (pos (unsigned_abs m)) x → IsMultiple (
 times m n x y h k = subst (λ (p : ℕ). IsMultiple (pos p) (x *ℤ y)) (sym (unsigned_abs-mul m n)) (multiple_times x y (pos (unsigned_abs m)) (pos (unsigned_abs n)) h k)
 
 pub product_holds : Covers product_row ◌*ℤ◌
+unfolding product_row
 product_holds a b x y h k = by_size (is_small (a.modulus *ℤ b.modulus)) (is_small (a.modulus *ℤ b.rem)) (is_small (b.modulus *ℤ a.rem))
   where
     p : ℕ
@@ -160,46 +177,62 @@ product_holds a b x y h k = by_size (is_small (a.modulus *ℤ b.modulus)) (is_sm
         (multiple_right p (gcd_of q s) (u *ℤ b.rem) (multiple_left q s (u *ℤ b.rem) (times a.modulus b.rem u b.rem h (multiple_self b.rem))))
         (multiple_right p (gcd_of q s) (v *ℤ a.rem) (multiple_right q s (v *ℤ a.rem) (times b.modulus a.rem v a.rem k (multiple_self a.rem))))))
 
-    by_size : (c d e : Bool) → Holds (product_from (cond c (Some (a.modulus *ℤ b.modulus)) None) (cond d (Some (a.modulus *ℤ b.rem)) None) (cond e (Some (b.modulus *ℤ a.rem)) None) (bounded (a.rem *ℤ b.rem))) (x *ℤ y)
+    by_size : (c d e : Bool) → Holds (product_from (cond c (Some (a.modulus *ℤ b.modulus)) None) (cond d (Some (a.modulus *ℤ b.rem)) None) (cond e (Some (b.modulus *ℤ a.rem)) None)
+        (bounded (a.rem *ℤ b.rem))) (x *ℤ y)
     by_size false d e = multiple_one (x *ℤ y -ℤ pos 0)
     by_size true false e = multiple_one (x *ℤ y -ℤ pos 0)
     by_size true true false = multiple_one (x *ℤ y -ℤ pos 0)
     by_size true true true = congr_holds (a.rem *ℤ b.rem) (x *ℤ y) (gcd_of p (gcd_of q s)) whole
 
 pub quotient_holds : Covers quotient_row int_div
-quotient_holds = only_holds (λ x y. cond (is_zero y) unknown_of (congr_of (int_div x y) 0)) int_div (λ x y. choose (λ c. Holds c (int_div x y)) (is_zero y) unknown_of (congr_of (int_div x y) 0) (λ _. multiple_one (int_div x y -ℤ pos 0)) (λ _. exactly (int_div x y) 0))
+unfolding quotient_row
+quotient_holds = only_holds (λ x y. cond (is_zero y) unknown_of (congr_of (int_div x y) 0)) int_div
+    (λ x y. choose (λ c. Holds c (int_div x y)) (is_zero y) unknown_of (congr_of (int_div x y) 0) (λ _. multiple_one (int_div x y -ℤ pos 0)) (λ _. exactly (int_div x y) 0))
 
 pub remainder_holds : Covers remainder_row int_rem
-remainder_holds = only_holds (λ x y. cond (is_zero y) unknown_of (congr_of (int_rem x y) 0)) int_rem (λ x y. choose (λ c. Holds c (int_rem x y)) (is_zero y) unknown_of (congr_of (int_rem x y) 0) (λ _. multiple_one (int_rem x y -ℤ pos 0)) (λ _. exactly (int_rem x y) 0))
+unfolding remainder_row
+remainder_holds = only_holds (λ x y. cond (is_zero y) unknown_of (congr_of (int_rem x y) 0)) int_rem
+    (λ x y. choose (λ c. Holds c (int_rem x y)) (is_zero y) unknown_of (congr_of (int_rem x y) 0) (λ _. multiple_one (int_rem x y -ℤ pos 0)) (λ _. exactly (int_rem x y) 0))
 
 -- ---- shifts and bits
 
 pub shl_holds : Covers shl_row shl_of
+unfolding shl_row
 shl_holds a b x y h k = choose (λ c. Holds c (shl_of x y)) (is_only b) (product_row a (only (pos (2 ^ unsigned_abs b.rem)))) unknown_of
     (λ e. rw (only_same b y e k) (product_holds a (only (pos (2 ^ unsigned_abs b.rem))) x (pos (2 ^ unsigned_abs b.rem)) h (itself (pos 0) (pos (2 ^ unsigned_abs b.rem)))))
     (λ _. multiple_one (shl_of x y -ℤ pos 0))
 
 pub shr_holds : Covers shr_row shr_of
+unfolding shr_row
 shr_holds = only_holds (λ x y. congr_of (shr_of x y) 0) shr_of (λ x y. exactly (shr_of x y) 0)
 
 pub not_holds : CoversComplement
-not_holds shape a x t i h = rw (complement_is shape x t i) (congr_holds (top_of shape -ℤ a.rem) (top_of shape -ℤ x) (period a) (renamed (pos (period a)) (neg_ℤ (x -ℤ a.rem)) ((top_of shape -ℤ x) -ℤ (top_of shape -ℤ a.rem)) (omega (arith, ints)) (multiple_neg (pos (period a)) (x -ℤ a.rem) h)))
+unfolding not_row
+not_holds shape a x t i h = rw (complement_is shape.lo shape.hi shape.width t x i)
+    (congr_holds (top_of shape -ℤ a.rem) (top_of shape -ℤ x) (period a)
+    (renamed (pos (period a)) (neg_ℤ (x -ℤ a.rem)) ((top_of shape -ℤ x) -ℤ (top_of shape -ℤ a.rem)) (omega (arith, ints)) (multiple_neg (pos (period a)) (x -ℤ a.rem) h)))
 
 pub and_holds : Covers and_row and_of
+unfolding and_row
 and_holds = only_holds (λ x y. congr_of (and_of x y) 0) and_of (λ x y. exactly (and_of x y) 0)
 
 pub or_holds : Covers or_row or_of
+unfolding or_row
 or_holds = only_holds (λ x y. congr_of (or_of x y) 0) or_of (λ x y. exactly (or_of x y) 0)
 
 pub xor_holds : Covers xor_row xor_of
+unfolding xor_row
 xor_holds = only_holds (λ x y. congr_of (xor_of x y) 0) xor_of (λ x y. exactly (xor_of x y) 0)
 
 -- ---- conversion
 
 pub convert_holds : CoversConversion
+unfolding convert_row
 convert_holds shape a x h = choose (λ c. Holds c w) (is_only a) (congr_of (wrap shape.lo shape.width a.rem) 0) (congr_of a.rem g)
     (λ e. rw (only_same a x e h) (exactly (wrap shape.lo shape.width a.rem) 0))
-    (λ _. congr_holds a.rem w g (renamed (pos g) ((w -ℤ x) +ℤ (x -ℤ a.rem)) (w -ℤ a.rem) (omega (arith, ints)) (multiple_add (pos g) (w -ℤ x) (x -ℤ a.rem) (multiple_right (period a) (2 ^ shape.width) (w -ℤ x) (wrap_multiple shape.lo shape.width x)) (multiple_left (period a) (2 ^ shape.width) (x -ℤ a.rem) h))))
+    (λ _. congr_holds a.rem w g (renamed (pos g) ((w -ℤ x) +ℤ (x -ℤ a.rem)) (w -ℤ a.rem) (omega (arith, ints))
+    (multiple_add (pos g) (w -ℤ x) (x -ℤ a.rem) (multiple_right (period a) (2 ^ shape.width) (w -ℤ x) (wrap_multiple shape.lo shape.width x))
+    (multiple_left (period a) (2 ^ shape.width) (x -ℤ a.rem) h))))
   where
     w : ℤ
     w = wrap shape.lo shape.width x

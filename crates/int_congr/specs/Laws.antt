@@ -1,5 +1,5 @@
 -- What the answers stand for.
-use Rattle.std.specs.Prelude.{◌↔◌, ℤ, pos, ◌-ℤ◌, IsTrue}
+use Rattle.std.specs.Prelude.{◌≡◌, ◌⊎◌, ◌↔◌, ◌^◌, ◌≤◌, ℤ, pos, ◌-ℤ◌, ◌≤ℤ◌, ◌<ℤ◌, unsigned_abs, IsTrue}
 use Rattle.machine_ints.specs.Bits.{not_of}
 use Rattle.machine_ints.specs.Convert.{wrap}
 use Rattle.machine_ints.specs.Divisors.{IsMultiple}
@@ -16,6 +16,24 @@ Holds c z = IsMultiple (pos (period c)) (z -ℤ c.rem)
 -- the answer stands for each result on numbers that the operands stand for
 abbrev pub Covers : (Congr → Congr → Congr) → (ℤ → ℤ → ℤ) → Type 0
 Covers row exact = (a b : Congr) (x y : ℤ) → Holds a x → Holds b y → Holds (row a b) (exact x y)
+
+-- the remainder lies from 0 to below the modulus, or the congruence is one number
+abbrev pub IsNormal : Congr → Type 0
+IsNormal c = (c.modulus ≡ pos 0) ⊎ ((pos 0 ≤ℤ c.rem) × (c.rem <ℤ c.modulus))
+
+-- each answer is normal
+abbrev pub IsAlwaysNormal : (Congr → Congr → Congr) → Type 0
+IsAlwaysNormal row = (a b : Congr) → IsNormal (row a b)
+
+-- both numbers are at most half the bound in absolute value, so that sums of two are kept
+abbrev pub IsModest : Congr → Type 0
+IsModest c = (unsigned_abs c.rem ≤ 2 ^ 125) × (period c ≤ 2 ^ 125)
+
+-- what includes two congruences includes their join
+abbrev pub JoinIsLeast : Type 0
+JoinIsLeast =
+    (a b c : Congr) → IsModest a → IsModest b → IsTrue (included_row a c) → IsTrue (included_row b c)
+    → IsTrue (included_row (join_row a b) c)
 
 -- the test of membership
 abbrev pub ContainsIsMember : Type 0

@@ -45,7 +45,7 @@ by_only f a b = if is_only a && is_only b then f a.rem b.rem else unknown_of
 
 -- ---- sets
 
-abbrev pub contains_row : Congr → ℤ → Bool
+unfoldable pub contains_row : Congr → ℤ → Bool
 contains_row c z = divides (period c) (unsigned_abs (z -ℤ c.rem))
 
 -- the least congruence with both, as far as the bound lets it be told
@@ -53,26 +53,26 @@ abbrev pub join_from : Option ℤ → Congr → Congr → Congr
 join_from None a b = unknown_of
 join_from (Some far) a b = congr_of a.rem (gcd_of (period a) (gcd_of (period b) (unsigned_abs far)))
 
-abbrev pub join_row : Congr → Congr → Congr
+unfoldable pub join_row : Congr → Congr → Congr
 join_row a b = join_from (bounded (a.rem -ℤ b.rem)) a b
 
 -- the second's period divides the first's and the difference of the remainders
-abbrev pub included_row : Congr → Congr → Bool
+unfoldable pub included_row : Congr → Congr → Bool
 included_row a b = divides (period b) (period a) && divides (period b) (unsigned_abs (a.rem -ℤ b.rem))
 
 -- some number may be in both
-abbrev pub may_meet : Congr → Congr → Bool
+unfoldable pub may_meet : Congr → Congr → Bool
 may_meet a b = divides (gcd_of (period a) (period b)) (unsigned_abs (a.rem -ℤ b.rem))
 
 -- ---- arithmetic
 
-abbrev pub negative_row : Congr → Congr
+unfoldable pub negative_row : Congr → Congr
 negative_row a = congr_of (neg_ℤ a.rem) (period a)
 
-abbrev pub sum_row : Congr → Congr → Congr
+unfoldable pub sum_row : Congr → Congr → Congr
 sum_row a b = congr_of (a.rem +ℤ b.rem) (gcd_of (period a) (period b))
 
-abbrev pub difference_row : Congr → Congr → Congr
+unfoldable pub difference_row : Congr → Congr → Congr
 difference_row a b = congr_of (a.rem -ℤ b.rem) (gcd_of (period a) (period b))
 
 -- of the products m1 m2, m1 r2, m2 r1 and r1 r2
@@ -82,16 +82,16 @@ product_from (Some p) None s r = unknown_of
 product_from (Some p) (Some q) None r = unknown_of
 product_from (Some p) (Some q) (Some s) r = modulo r (gcd_of (unsigned_abs p) (gcd_of (unsigned_abs q) (unsigned_abs s)))
 
-abbrev pub product_row : Congr → Congr → Congr
+unfoldable pub product_row : Congr → Congr → Congr
 product_row a b = product_from (bounded (a.modulus *ℤ b.modulus)) (bounded (a.modulus *ℤ b.rem)) (bounded (b.modulus *ℤ a.rem)) (bounded (a.rem *ℤ b.rem))
 
 abbrev pub is_zero : ℤ → Bool
 is_zero z = unsigned_abs z == 0
 
-abbrev pub quotient_row : Congr → Congr → Congr
+unfoldable pub quotient_row : Congr → Congr → Congr
 quotient_row = by_only (λ x y. if is_zero y then unknown_of else congr_of (int_div x y) 0)
 
-abbrev pub remainder_row : Congr → Congr → Congr
+unfoldable pub remainder_row : Congr → Congr → Congr
 remainder_row = by_only (λ x y. if is_zero y then unknown_of else congr_of (int_rem x y) 0)
 
 -- ---- shifts
@@ -101,29 +101,29 @@ abbrev pub IsShift : Shape → Congr → Type 0
 IsShift shape c = (c.modulus ≢ pos 0) ⊎ ((pos 0 ≤ℤ c.rem) × (c.rem <ℤ pos shape.width))
 
 -- times the one power of two
-abbrev pub shl_row : Congr → Congr → Congr
+unfoldable pub shl_row : Congr → Congr → Congr
 shl_row a b = if is_only b then product_row a (only (pos (2 ^ unsigned_abs b.rem))) else unknown_of
 
-abbrev pub shr_row : Congr → Congr → Congr
+unfoldable pub shr_row : Congr → Congr → Congr
 shr_row = by_only (λ x y. congr_of (shr_of x y) 0)
 
 -- ---- bits
 
 -- `~x` is -1 - x, and of an unsigned type its greatest number less x
-abbrev pub not_row : Shape → Congr → Congr
+unfoldable pub not_row : Shape → Congr → Congr
 not_row shape a = congr_of (top_of shape -ℤ a.rem) (period a)
 
-abbrev pub and_row : Congr → Congr → Congr
+unfoldable pub and_row : Congr → Congr → Congr
 and_row = by_only (λ x y. congr_of (and_of x y) 0)
 
-abbrev pub or_row : Congr → Congr → Congr
+unfoldable pub or_row : Congr → Congr → Congr
 or_row = by_only (λ x y. congr_of (or_of x y) 0)
 
-abbrev pub xor_row : Congr → Congr → Congr
+unfoldable pub xor_row : Congr → Congr → Congr
 xor_row = by_only (λ x y. congr_of (xor_of x y) 0)
 
 -- ---- conversion
 
 -- by 2^width, and exact for one number
-abbrev pub convert_row : Shape → Congr → Congr
+unfoldable pub convert_row : Shape → Congr → Congr
 convert_row shape a = if is_only a then congr_of (wrap shape.lo shape.width a.rem) 0 else congr_of a.rem (gcd_of (period a) (2 ^ shape.width))

@@ -1,4 +1,4 @@
-//! `+ - * / %` and unary `-` on congruences.
+//! `+ - * / %` and unary `-` on congruences, of whole numbers without bound and as operators of C.
 
 ghost use Rattle.std.specs.Prelude.{◌≡◌, ◌&&◌};
 ghost use Rattle.int_congr.specs.Rows.{
@@ -18,22 +18,25 @@ use int_interval::Shape;
 use machine_ints::{difference, gcd, negative, product, quotient, remainder, sum, within_bound};
 
 impl Congr {
-    /// Unary `-`, before any check.
-    pub fn neg(&self, shape: &Shape) -> Congr
+    /// The numbers `-x`.
+    #[tactic(auto, unfolding(crate::specs::Rows::negative_row))]
+    pub fn negation(&self) -> Congr
         ensures { result ≡ negative_row self.now }
     {
         congruent(negative(self.rem), self.period())
     }
 
-    /// `+`, before any check.
-    pub fn add(&self, other: &Congr, shape: &Shape) -> Congr
+    /// The sums.
+    #[tactic(auto, unfolding(crate::specs::Rows::sum_row))]
+    pub fn sum(&self, other: &Congr) -> Congr
         ensures { result ≡ sum_row self.now other.now }
     {
         congruent(sum(self.rem, other.rem), gcd(self.period(), other.period()))
     }
 
-    /// `-`, before any check.
-    pub fn sub(&self, other: &Congr, shape: &Shape) -> Congr
+    /// The differences.
+    #[tactic(auto, unfolding(crate::specs::Rows::difference_row))]
+    pub fn difference(&self, other: &Congr) -> Congr
         ensures { result ≡ difference_row self.now other.now }
     {
         congruent(
@@ -42,8 +45,9 @@ impl Congr {
         )
     }
 
-    /// `*`, before any check.
-    pub fn mul(&self, other: &Congr, shape: &Shape) -> Congr
+    /// The products.
+    #[tactic(auto, unfolding(crate::specs::Rows::product_row))]
+    pub fn product(&self, other: &Congr) -> Congr
         ensures { result ≡ product_row self.now other.now }
     {
         products(
@@ -54,8 +58,9 @@ impl Congr {
         )
     }
 
-    /// `/`, before any check: exact on single numbers, but for the divisor 0.
-    pub fn div(&self, other: &Congr, shape: &Shape) -> Congr
+    /// The quotients towards zero: exact on single numbers, but for the divisor 0.
+    #[tactic(auto, unfolding(crate::specs::Rows::quotient_row))]
+    pub fn quotient(&self, other: &Congr) -> Congr
         ensures { result ≡ quotient_row self.now other.now }
     {
         if self.both_single(other) {
@@ -69,8 +74,9 @@ impl Congr {
         }
     }
 
-    /// `%`, before any check: exact on single numbers, but for the divisor 0.
-    pub fn rem(&self, other: &Congr, shape: &Shape) -> Congr
+    /// The remainders, with the sign of the dividend: exact on single numbers, but for the divisor 0.
+    #[tactic(auto, unfolding(crate::specs::Rows::remainder_row))]
+    pub fn remainder(&self, other: &Congr) -> Congr
         ensures { result ≡ remainder_row self.now other.now }
     {
         if self.both_single(other) {
@@ -89,6 +95,51 @@ impl Congr {
         ensures { result ≡ (is_only self.now && is_only other.now) }
     {
         self.is_single() && other.is_single()
+    }
+}
+
+/// The same as operators of C on a type, before any check.
+impl Congr {
+    /// Unary `-`.
+    pub fn neg(&self, shape: &Shape) -> Congr
+        ensures { result ≡ negative_row self.now }
+    {
+        self.negation()
+    }
+
+    /// `+`.
+    pub fn add(&self, other: &Congr, shape: &Shape) -> Congr
+        ensures { result ≡ sum_row self.now other.now }
+    {
+        self.sum(other)
+    }
+
+    /// `-`.
+    pub fn sub(&self, other: &Congr, shape: &Shape) -> Congr
+        ensures { result ≡ difference_row self.now other.now }
+    {
+        self.difference(other)
+    }
+
+    /// `*`.
+    pub fn mul(&self, other: &Congr, shape: &Shape) -> Congr
+        ensures { result ≡ product_row self.now other.now }
+    {
+        self.product(other)
+    }
+
+    /// `/`.
+    pub fn div(&self, other: &Congr, shape: &Shape) -> Congr
+        ensures { result ≡ quotient_row self.now other.now }
+    {
+        self.quotient(other)
+    }
+
+    /// `%`.
+    pub fn rem(&self, other: &Congr, shape: &Shape) -> Congr
+        ensures { result ≡ remainder_row self.now other.now }
+    {
+        self.remainder(other)
     }
 }
 

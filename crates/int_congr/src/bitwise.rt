@@ -10,6 +10,7 @@ use machine_ints::{and, difference, or, xor};
 
 impl Congr {
     /// `~`.
+    #[tactic(auto, unfolding(crate::specs::Rows::not_row))]
     pub fn invert(&self, shape: &Shape) -> Congr
         ensures { result ≡ not_row shape.now self.now }
     {
@@ -17,6 +18,7 @@ impl Congr {
     }
 
     /// `&`: exact on single numbers.
+    #[tactic(auto, unfolding(crate::specs::Rows::and_row))]
     pub fn and(&self, other: &Congr, shape: &Shape) -> Congr
         ensures { result ≡ and_row self.now other.now }
     {
@@ -28,6 +30,7 @@ impl Congr {
     }
 
     /// `|`: exact on single numbers.
+    #[tactic(auto, unfolding(crate::specs::Rows::or_row))]
     pub fn or(&self, other: &Congr, shape: &Shape) -> Congr
         ensures { result ≡ or_row self.now other.now }
     {
@@ -39,6 +42,7 @@ impl Congr {
     }
 
     /// `^`: exact on single numbers.
+    #[tactic(auto, unfolding(crate::specs::Rows::xor_row))]
     pub fn xor(&self, other: &Congr, shape: &Shape) -> Congr
         ensures { result ≡ xor_row self.now other.now }
     {

@@ -20,7 +20,9 @@ ghost use Rattle.int_congr.specs.Rows.{
 };
 
 use int_interval::Shape;
-use machine_ints::{differ_by_multiple, difference, gcd, residue, within_bound, wrap};
+use machine_ints::{
+    BOUND, differ_by_multiple, difference, gcd, residue, unsigned_power_of_two, within_bound, wrap,
+};
 
 /// The numbers that differ from `rem` by a multiple of `modulus`; with the modulus 0, `rem` alone.
 /// Each answer of an operator has `rem` from 0 to `modulus` - 1, or the modulus 0.
@@ -68,9 +70,6 @@ fn reduced(rem: i128, modulus: u128) -> Congr
     }
 }
 
-/// 2^126.
-const BOUND: u128 = 0x4000_0000_0000_0000_0000_0000_0000_0000;
-
 impl Congr {
     /// The modulus without its sign.
     pub fn period(&self) -> u128
@@ -87,6 +86,7 @@ impl Congr {
     }
 
     /// Whether the congruence stands for the number.
+    #[tactic(auto, unfolding(crate::specs::Rows::contains_row))]
     pub fn contains(&self, number: i128) -> bool
         ensures { result ≡ contains_row self.now number }
     {
@@ -94,6 +94,7 @@ impl Congr {
     }
 
     /// The least congruence with the numbers of both, if it is within the bound.
+    #[tactic(auto, unfolding(crate::specs::Rows::join_row))]
     pub fn join(&self, other: &Congr) -> Congr
         ensures { result ≡ join_row self.now other.now }
     {
@@ -107,6 +108,7 @@ impl Congr {
     }
 
     /// Whether each number of this congruence is in the other.
+    #[tactic(auto, unfolding(crate::specs::Rows::included_row))]
     pub fn included(&self, other: &Congr) -> bool
         ensures { result ≡ included_row self.now other.now }
     {
@@ -121,6 +123,7 @@ impl Congr {
     }
 
     /// Whether some number is in both.
+    #[tactic(auto, unfolding(crate::specs::Rows::may_meet))]
     pub fn meets(&self, other: &Congr) -> bool
         ensures { result ≡ may_meet self.now other.now }
     {
@@ -128,6 +131,7 @@ impl Congr {
     }
 
     /// The conversion to a type (C11 6.3.1.3) of numbers that may be outside it.
+    #[tactic(auto, unfolding(crate::specs::Rows::convert_row))]
     pub fn convert(&self, shape: &Shape) -> Congr
         requires { IsShape shape.now }
         ensures { result ≡ convert_row shape.now self.now }
@@ -137,16 +141,8 @@ impl Congr {
         } else {
             congruent(
                 within_bound(self.rem),
-                gcd(self.period(), two_to(shape.width)),
+                gcd(self.period(), unsigned_power_of_two(shape.width)),
             )
         }
     }
-}
-
-/// 2^`by`.
-fn two_to(by: u32) -> u128
-    requires { by ≤ 64 }
-    ensures { result ≡ 2 ^ by }
-{
-    1 << by
 }

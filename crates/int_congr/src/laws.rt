@@ -10,13 +10,19 @@ ghost use Rattle.int_congr.specs.Laws.{
   CoversConversion,
   Holds,
   IncludedIsSubset,
+  IsAlwaysNormal,
+  IsNormal,
+  JoinIsLeast,
   JoinIsUpper,
   MeetsIfCommon,
 };
 ghost use Rattle.int_congr.specs.Rows.{
   and_row,
+  convert_row,
   difference_row,
+  join_row,
   negative_row,
+  not_row,
   or_row,
   product_row,
   quotient_row,
@@ -26,6 +32,7 @@ ghost use Rattle.int_congr.specs.Rows.{
   sum_row,
   xor_row,
 };
+ghost use Rattle.int_interval.specs.declared.shape.Shape.{Shape};
 ghost use Rattle.int_congr.specs.declared.congr.Congr.{Congr};
 
 /// The arithmetic operators stand for each exact result on numbers that their operands stand for.
@@ -57,10 +64,29 @@ pub fn conversion_covers()
     ensures { CoversConversion }
 {}
 
-/// The tests and the join as sets.
+/// The tests and the join as sets; of congruences with numbers up to 2^125 the join is the least upper bound.
 pub fn set_laws()
     ensures contains { ContainsIsMember }
     ensures join { JoinIsUpper }
     ensures included { IncludedIsSubset }
+    ensures least { JoinIsLeast }
     ensures meets { MeetsIfCommon }
+{}
+
+/// Each answer has its remainder from 0 to below its modulus, or is one number.
+pub fn results_are_normal()
+    ensures neg { (a : Congr) → IsNormal (negative_row a) }
+    ensures add { IsAlwaysNormal sum_row }
+    ensures sub { IsAlwaysNormal difference_row }
+    ensures mul { IsAlwaysNormal product_row }
+    ensures div { IsAlwaysNormal quotient_row }
+    ensures rem { IsAlwaysNormal remainder_row }
+    ensures shl { IsAlwaysNormal shl_row }
+    ensures shr { IsAlwaysNormal shr_row }
+    ensures invert { (shape : Shape) (a : Congr) → IsNormal (not_row shape a) }
+    ensures and { IsAlwaysNormal and_row }
+    ensures or { IsAlwaysNormal or_row }
+    ensures xor { IsAlwaysNormal xor_row }
+    ensures join { IsAlwaysNormal join_row }
+    ensures convert { (shape : Shape) (a : Congr) → IsNormal (convert_row shape a) }
 {}

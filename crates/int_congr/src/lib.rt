@@ -9,7 +9,9 @@ mod laws;
 mod shifts;
 
 pub use congr::Congr;
-pub use laws::{arithmetic_covers, bits_cover, conversion_covers, set_laws, shifts_cover};
+pub use laws::{
+    arithmetic_covers, bits_cover, conversion_covers, results_are_normal, set_laws, shifts_cover,
+};
 
 #[cfg(test)]
 mod tests;

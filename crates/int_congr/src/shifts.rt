@@ -13,19 +13,21 @@ use machine_ints::{power_of_two, shifted_right};
 impl Congr {
     /// `<<`, before the check of signed overflow: a product, where the right operand is one number. Asks that such a
     /// number is within 0 to the width less 1.
+    #[tactic(auto, unfolding(crate::specs::Rows::shl_row))]
     pub fn shl(&self, other: &Congr, shape: &Shape) -> Congr
         requires shape { IsShape shape.now }
         requires shift { IsShift shape.now other.now }
         ensures { result ≡ shl_row self.now other.now }
     {
         if other.is_single() {
-            self.mul(&two_power(other.rem), shape)
+            self.product(&two_power(other.rem))
         } else {
             unknown()
         }
     }
 
     /// `>>`: exact on single numbers. Asks that a single right operand is within 0 to the width less 1.
+    #[tactic(auto, unfolding(crate::specs::Rows::shr_row))]
     pub fn shr(&self, other: &Congr, shape: &Shape) -> Congr
         requires shape { IsShape shape.now }
         requires shift { IsShift shape.now other.now }

@@ -45,6 +45,16 @@ fn arithmetic(rt: HostRuntime) {
 }
 
 #[test]
+fn terms_without_a_type(rt: HostRuntime) {
+    assert_eq!(rt; congr(1, 4).negation(), congr(3, 4));
+    assert_eq!(rt; congr(1, 4).sum(&congr(3, 6)), congr(0, 2));
+    assert_eq!(rt; congr(1, 4).difference(&congr(3, 6)), congr(0, 2));
+    assert_eq!(rt; congr(0, 2).product(&congr(3, 0)), congr(0, 6));
+    assert_eq!(rt; congr(-7, 0).quotient(&congr(2, 0)), congr(-3, 0));
+    assert_eq!(rt; congr(-7, 0).remainder(&congr(2, 0)), congr(-1, 0));
+}
+
+#[test]
 fn bits(rt: HostRuntime) {
     let shape = signed_byte();
     assert_eq!(rt; congr(1, 4).invert(&shape), congr(2, 4));
@@ -89,4 +99,5 @@ fn ends(rt: HostRuntime) {
     bits_cover();
     conversion_covers();
     set_laws();
+    results_are_normal();
 }

@@ -1,31 +1,31 @@
 -- What the answers stand for, operator by operator.
-use Rattle.std.proofs.Common.{◌≡◌, ◌≢◌, ℕ, suc, ◌-◌, ◌^◌, ◌≤◌, ◌<◌, max, ℤ, pos, negsuc, neg_ℤ, ◌+ℤ◌, ◌-ℤ◌, ◌*ℤ◌, ◌≤ℤ◌, ◌<ℤ◌, unsigned_abs, int_div, int_rem, int_le, int_lt, Bool, true, false, cond, ◌⊎◌, refl, subst, arith, inl, inr, ⊎_elim}
+use Rattle.std.proofs.Common.{◌≡◌, ◌≢◌, ℕ, suc, ◌^◌, ◌≤◌, ◌<◌, max, ℤ, pos, negsuc, neg_ℤ, ◌+ℤ◌, ◌-ℤ◌, ◌*ℤ◌, ◌≤ℤ◌}
+use Rattle.std.proofs.Common.{◌<ℤ◌, unsigned_abs, int_div, int_rem, int_le, int_lt, Bool, true, false, cond, ◌⊎◌, refl, sym, subst, arith, inl, inr, ⊎_elim}
 use Rattle.std.specs.Int.{int_min, int_max}
 use Rattle.std.proofs.lemmas.Int.{ints, clamps, by_lt_z}
-use Rattle.std.proofs.lemmas.Bool.{cases_lt, and_parts, false≢true}
+use Rattle.std.proofs.lemmas.Bool.{cases_lt, and_parts, and_from, false≢true}
 use lib.Pow.{pow_mono, pow_pos}
 use Rattle.machine_ints.specs.Bits.{and_of, or_of, xor_of, not_of, length_of}
 use Rattle.machine_ints.specs.Convert.{wrap}
 use Rattle.machine_ints.specs.Corners.{least4, greatest4}
 use Rattle.machine_ints.specs.Operators.{IsWithin, shl_of, shr_of}
-use Rattle.machine_ints.proofs.BitLaws.{IsSigned, and_low, or_above, or_low, xor_natural, xor_low, and_signed, or_signed, xor_signed, not-is, below_length}
-use Rattle.machine_ints.proofs.Conversions.{wrap_low, wrap_high, wrap_is, wrap_same, IsRange, range_of_type}
+use Rattle.machine_ints.proofs.BitLaws.{and_low, or_above, or_low, xor_natural, xor_low, below_length}
+use Rattle.machine_ints.proofs.Choices.{choose}
 use Rattle.machine_ints.proofs.Corners.{Cornered, cornered_mul}
 use Rattle.machine_ints.proofs.Quotients.{cornered_above, cornered_below, cornered_shr, rem_above, rem_below_zero}
+use Rattle.machine_ints.proofs.Results.{complement_is, and_within, or_within, xor_within, wrap_kept, wrap_within}
 use Rattle.int_interval.specs.declared.shape.Shape.{Shape}
 use Rattle.int_interval.specs.declared.interval.Interval.{Interval}
 use Rattle.int_interval.specs.declared.interval.Interval.TheVariants.{Empty, Within, All}
-use Rattle.int_interval.specs.Laws.{Holds, Covers, CoversDivision, CoversShift, CoversBits, CoversConversion, IncludedIsSubset}
-use Rattle.int_interval.specs.Rows.{cut, by_ends, corner_cut, is_one, are_one, are_natural, is_inside, join_row, meet_row, negative_row, sum_row, difference_row, product_row, quotients_below, quotients_above, quotient_row, reach, remainder_low, remainder_high, remainders, remainder_row, shl_row, shr_row, mask, by_bits, not_row, and_row, or_row, xor_row}
-use Rattle.int_interval.specs.Shapes.{IsShape, IsShift, is_signed, top_of}
+use Rattle.int_interval.specs.Laws.{Holds, Covers, CoversDivision, CoversShift, CoversBits, CoversConversion, ContainsIsMember, EmptyHasNone, JustIsOne, IncludedIsSubset}
+use Rattle.int_interval.specs.Rows.{cut, by_ends, corner_cut, is_one, are_one, are_natural, is_inside}
+use Rattle.int_interval.specs.Rows.{join_row, meet_row, included_row, convert_row, negative_row, sum_row, difference_row}
+use Rattle.int_interval.specs.Rows.{product_row, quotients_below, quotients_above, quotient_row, reach, remainder_low, remainder_high, remainders}
+use Rattle.int_interval.specs.Rows.{remainder_row, shl_row, shr_row, mask, by_bits, not_row, and_row, or_row, xor_row}
+use Rattle.int_interval.specs.Shapes.{IsShape, IsShift, top_of}
 use Rattle.int_interval.proofs.Cuts.{cut_in, cut_low, cut_high}
 
 -- ---- forms
-
--- a choice by a test
-pub choose : (P : Interval → Type 0) (b : Bool) (s t : Interval) → (b ≡ true → P s) → (b ≡ false → P t) → P (cond b s t)
-choose P true s t f g = f refl
-choose P false s t f g = g refl
 
 pub cut_holds : (lo hi z : ℤ) → lo ≤ℤ z → z ≤ℤ hi → Holds (cut lo hi) z
 cut_holds lo hi z h k =
@@ -38,7 +38,8 @@ corner_holds : (f : ℤ → ℤ → ℤ) (a b c d z : ℤ) → Cornered (f a c) 
 unfolding corner_cut
 corner_holds f a b c d z s = cut_holds (least4 (f a c) (f a d) (f b c) (f b d)) (greatest4 (f a c) (f a d) (f b c) (f b d)) z s.low s.high
 
-ends_hold : (f : ℤ → ℤ → ℤ → ℤ → Interval) (a b : Interval) (x y z : ℤ) → Holds a x → Holds b y → ((p q r s : ℤ) → a ≡ Within p q → b ≡ Within r s → p ≤ℤ x → x ≤ℤ q → r ≤ℤ y → y ≤ℤ s → Holds (f p q r s) z) → Holds (by_ends f a b) z
+ends_hold : (f : ℤ → ℤ → ℤ → ℤ → Interval) (a b : Interval) (x y z : ℤ) → Holds a x → Holds b y
+    → ((p q r s : ℤ) → a ≡ Within p q → b ≡ Within r s → p ≤ℤ x → x ≤ℤ q → r ≤ℤ y → y ≤ℤ s → Holds (f p q r s) z) → Holds (by_ends f a b) z
 ends_hold f Empty b x y z h k g = h
 ends_hold f (Within p q) Empty x y z h k g = k
 ends_hold f (Within p q) (Within r s) x y z h k g = g p q r s refl refl h.0 h.1 k.0 k.1
@@ -52,7 +53,29 @@ one_same a b x e h k = let p = and_parts (int_le a b) (int_le b a) e in let l = 
 
 -- ---- sets
 
+pub contains_member : ContainsIsMember
+contains_member Empty z = (λ e. absurd (false≢true e), λ h. absurd h)
+contains_member (Within p q) z = (
+  λ e. let t = and_parts (int_le p z) (int_le z q) e in let l = t.0 in let m = t.1 in (omega (arith, ints), omega (arith, ints)),
+  λ h. and_from (int_le p z) (int_le z q) (sym (omega (arith, ints, h.0))) (sym (omega (arith, ints, h.1))),
+)
+contains_member All z = (λ e. tt, λ h. refl)
+
+pub empty_none : EmptyHasNone
+empty_none Empty e z h = h
+empty_none (Within p q) e z h = false≢true e
+empty_none All e z h = false≢true e
+
+pub just_same : JustIsOne
+just_same Empty n z e h = absurd h
+just_same (Within p q) n z e h =
+    let t = and_parts (is_one p n) (is_one q n) e in
+    let u = (and_parts (int_le p n) (int_le n p) t.0).1 in let v = (and_parts (int_le q n) (int_le n q) t.1).0 in
+    omega (arith, ints, h.0, h.1)
+just_same All n z e h = absurd (false≢true e)
+
 pub join_left : (a b : Interval) (z : ℤ) → Holds a z → Holds (join_row a b) z
+unfolding join_row
 join_left Empty b z h = absurd h
 join_left (Within p q) Empty z h = h
 join_left (Within p q) (Within r s) z h = cut_holds (int_min p r) (int_max q s) z (omega (arith, ints, clamps, h.0)) (omega (arith, ints, clamps, h.1))
@@ -60,6 +83,7 @@ join_left (Within p q) All z h = tt
 join_left All b z h = tt
 
 pub join_right : (a b : Interval) (z : ℤ) → Holds b z → Holds (join_row a b) z
+unfolding join_row
 join_right Empty b z h = h
 join_right (Within p q) Empty z h = absurd h
 join_right (Within p q) (Within r s) z h = cut_holds (int_min p r) (int_max q s) z (omega (arith, ints, clamps, h.0)) (omega (arith, ints, clamps, h.1))
@@ -67,6 +91,7 @@ join_right (Within p q) All z h = tt
 join_right All b z h = tt
 
 pub meet_both : (a b : Interval) (z : ℤ) → Holds (meet_row a b) z → Holds a z × Holds b z
+unfolding meet_row
 meet_both Empty b z h = absurd h
 meet_both (Within p q) Empty z h = absurd h
 meet_both (Within p q) (Within r s) z h = choose (λ i. Holds i z → Holds (Within p q) z × Holds (Within r s) z) (int_le (int_max p r) (int_min q s)) (Within (int_max p r) (int_min q s)) Empty
@@ -75,6 +100,7 @@ meet_both (Within p q) All z h = (h, tt)
 meet_both All b z h = (tt, h)
 
 pub meet_holds : (a b : Interval) (z : ℤ) → Holds a z → Holds b z → Holds (meet_row a b) z
+unfolding meet_row
 meet_holds Empty b z h k = h
 meet_holds (Within p q) Empty z h k = k
 meet_holds (Within p q) (Within r s) z h k = choose (λ i. Holds i z) (int_le (int_max p r) (int_min q s)) (Within (int_max p r) (int_min q s)) Empty
@@ -83,6 +109,7 @@ meet_holds (Within p q) All z h k = h
 meet_holds All b z h k = k
 
 pub included_holds : IncludedIsSubset
+unfolding included_row
 included_holds Empty b z e h = absurd h
 included_holds (Within p q) Empty z e h = absurd (false≢true e)
 included_holds (Within p q) (Within r s) z e h = let i = and_parts (int_le r p) (int_le q s) e in let l = i.0 in let m = i.1 in (omega (arith, ints, h.0), omega (arith, ints, h.1))
@@ -94,17 +121,21 @@ included_holds All All z e h = tt
 -- ---- arithmetic
 
 pub negative_holds : (a : Interval) (x : ℤ) → Holds a x → Holds (negative_row a) (neg_ℤ x)
+unfolding negative_row
 negative_holds Empty x h = h
 negative_holds (Within p q) x h = cut_holds (neg_ℤ q) (neg_ℤ p) (neg_ℤ x) (omega (arith, ints, h.1)) (omega (arith, ints, h.0))
 negative_holds All x h = tt
 
 pub sum_holds : Covers sum_row ◌+ℤ◌
+unfolding sum_row
 sum_holds a b x y f g = ends_hold _ a b x y (x +ℤ y) f g (λ p q r s _ _ h k i j. cut_holds (p +ℤ r) (q +ℤ s) (x +ℤ y) (omega (arith, ints)) (omega (arith, ints)))
 
 pub difference_holds : Covers difference_row ◌-ℤ◌
+unfolding difference_row
 difference_holds a b x y f g = ends_hold _ a b x y (x -ℤ y) f g (λ p q r s _ _ h k i j. cut_holds (p -ℤ s) (q -ℤ r) (x -ℤ y) (omega (arith, ints)) (omega (arith, ints)))
 
 pub product_holds : Covers product_row ◌*ℤ◌
+unfolding product_row
 product_holds a b x y f g = ends_hold _ a b x y (x *ℤ y) f g (λ p q r s _ _ h k i j. corner_holds ◌*ℤ◌ p q r s (x *ℤ y) (cornered_mul p q r s x y h k i j))
 
 by_negative : (p q r s x y : ℤ) → p ≤ℤ x → x ≤ℤ q → r ≤ℤ y → y ≤ℤ s → y <ℤ pos 0 → Holds (quotients_below p q r s) (int_div x y)
@@ -120,6 +151,7 @@ by_positive p q r s x y h k i j n = choose (λ v. Holds v (int_div x y)) (int_lt
     (λ e. absurd (omega (arith, ints)))
 
 pub quotient_holds : CoversDivision quotient_row int_div
+unfolding quotient_row
 quotient_holds a b x y f g n = ends_hold _ a b x y (int_div x y) f g (λ p q r s _ _ h k i j. by_lt_z y (pos 0)
     (λ (l : y <ℤ pos 0). join_left (quotients_below p q r s) (quotients_above p q r s) (int_div x y) (by_negative p q r s x y h k i j l))
     (λ (l : pos 0 ≤ℤ y). join_right (quotients_below p q r s) (quotients_above p q r s) (int_div x y) (by_positive p q r s x y h k i j (omega (arith, ints, n)))))
@@ -129,8 +161,10 @@ one_remainder p q r s x y e h k i j = let t = and_parts (is_one p q) (is_one r s
 
 many_remainders : (p q r s x y : ℤ) → y ≢ pos 0 → p ≤ℤ x → x ≤ℤ q → r ≤ℤ y → y ≤ℤ s → Holds (cut (remainder_low p (reach r s)) (remainder_high q (reach r s))) (int_rem x y)
 many_remainders p q r s x y n h k i j = cut_holds (remainder_low p m) (remainder_high q m) (int_rem x y)
-    (by_lt_z x (pos 0) (λ (l : x <ℤ pos 0). let z = rem_below_zero x y m n near (omega (arith, ints)) in low (int_le (pos 0) p) refl (omega (arith, ints)) z.1 z.2) (λ (l : pos 0 ≤ℤ x). let z = rem_above x y m n near l in low' (int_le (pos 0) p) refl z.0))
-    (by_lt_z x (pos 0) (λ (l : x <ℤ pos 0). let z = rem_below_zero x y m n near (omega (arith, ints)) in high' (int_le q (pos 0)) refl z.0) (λ (l : pos 0 ≤ℤ x). let z = rem_above x y m n near l in high (int_le q (pos 0)) refl l z.1 z.2))
+    (by_lt_z x (pos 0) (λ (l : x <ℤ pos 0). let z = rem_below_zero x y m n near (omega (arith, ints)) in low (int_le (pos 0) p) refl (omega (arith, ints)) z.1 z.2)
+    (λ (l : pos 0 ≤ℤ x). let z = rem_above x y m n near l in low' (int_le (pos 0) p) refl z.0))
+    (by_lt_z x (pos 0) (λ (l : x <ℤ pos 0). let z = rem_below_zero x y m n near (omega (arith, ints)) in high' (int_le q (pos 0)) refl z.0)
+    (λ (l : pos 0 ≤ℤ x). let z = rem_above x y m n near l in high (int_le q (pos 0)) refl l z.1 z.2))
   where
     m : ℕ
     m = reach r s
@@ -166,6 +200,7 @@ rem_within p q r s x y n h k i j = choose (λ v. Holds v (int_rem x y)) (are_one
     none e f = let t = and_parts (int_le r (pos 0)) (int_le (pos 0) r) e in let u = and_parts (int_le s (pos 0)) (int_le (pos 0) s) f in let a = t.1 in let b = u.0 in omega (arith, ints)
 
 pub remainder_holds : CoversDivision remainder_row int_rem
+unfolding remainder_row
 remainder_holds a b x y f g n = ends_hold remainders a b x y (int_rem x y) f g (λ p q r s _ _ h k i j. rem_within p q r s x y n h k i j)
 
 -- ---- shifts
@@ -174,92 +209,90 @@ power_le : (y z : ℤ) → pos 0 ≤ℤ y → y ≤ℤ z → pos (2 ^ unsigned_a
 power_le y z h k = omega (arith, ints, pow_mono {i = unsigned_abs y} {j = unsigned_abs z} (omega (arith, ints)))
 
 pub shl_holds : CoversShift shl_row shl_of
+unfolding shl_row
 shl_holds shape a b x y v f g = ends_hold _ a b x y (shl_of x y) f g (λ p q r s _ e h k i j. let w : IsShift shape (Within r s) = subst (IsShift shape) e v in
-    corner_holds shl_of p q r s (shl_of x y) (cornered_mul p q (pos (2 ^ unsigned_abs r)) (pos (2 ^ unsigned_abs s)) x (pos (2 ^ unsigned_abs y)) h k (power_le r y w.0 i) (power_le y s (omega (arith, ints, w.0)) j)))
+    corner_holds shl_of p q r s (shl_of x y) (cornered_mul p q (pos (2 ^ unsigned_abs r)) (pos (2 ^ unsigned_abs s)) x (pos (2 ^ unsigned_abs y)) h k (power_le r y w.0 i)
+    (power_le y s (omega (arith, ints, w.0)) j)))
 
 pub shr_holds : CoversShift shr_row shr_of
+unfolding shr_row
 shr_holds shape a b x y v f g = ends_hold _ a b x y (shr_of x y) f g (λ p q r s _ e h k i j. let w : IsShift shape (Within r s) = subst (IsShift shape) e v in
     corner_holds shr_of p q r s (shr_of x y) (cornered_shr p q x (unsigned_abs r) (unsigned_abs s) (unsigned_abs y) h k (omega (arith, ints, w.0)) (omega (arith, ints, w.0))))
 
 -- ---- bits
 
--- `~` of a number of the type
-pub complement_is : (shape : Shape) (x : ℤ) → IsShape shape → IsWithin shape.lo shape.hi x → wrap shape.lo shape.width (not_of x) ≡ top_of shape -ℤ x
-complement_is shape x t i = ⊎_elim
-    (λ (u : (shape.lo ≡ pos 0) × (shape.hi ≡ pos (2 ^ shape.width - 1))). let a = u.0 in
-    by_sign (is_signed shape) refl (λ n. absurd (omega (arith, ints)))
-    (λ _. wrap_is shape.lo shape.hi shape.width (not_of x) (shape.hi -ℤ x) (negsuc 0) r.span (omega (arith, ints, i.0, i.1)) (omega (arith, ints, i.0, i.1)) (omega (arith, ints, not-is x, r.span))))
-    (λ (u : (shape.lo ≡ neg_ℤ (pos (2 ^ (shape.width - 1)))) × (shape.hi ≡ pos (2 ^ (shape.width - 1) - 1))). let a = u.0 in let b = u.1 in let o = pow_pos (shape.width - 1) in
-    by_sign (is_signed shape) refl
-    (λ _. wrap_is shape.lo shape.hi shape.width (not_of x) (negsuc 0 -ℤ x) (pos 0) r.span (omega (arith, ints, i.0, i.1)) (omega (arith, ints, i.0, i.1)) (omega (arith, ints, not-is x)))
-    (λ n. absurd (omega (arith, ints))))
-    t.2
-  where
-    r : IsRange shape.lo shape.hi shape.width
-    r = range_of_type shape.lo shape.hi shape.width t
-
-    by_sign : (b : Bool) → is_signed shape ≡ b → (is_signed shape ≡ true → wrap shape.lo shape.width (not_of x) ≡ negsuc 0 -ℤ x) → (is_signed shape ≡ false → wrap shape.lo shape.width (not_of x) ≡ shape.hi -ℤ x) → wrap shape.lo shape.width (not_of x) ≡ cond b (negsuc 0) shape.hi -ℤ x
-    by_sign true e f g = f e
-    by_sign false e f g = g e
-
 pub not_holds : (shape : Shape) (a : Interval) (x : ℤ) → IsShape shape → IsWithin shape.lo shape.hi x → Holds a x → Holds (not_row shape a) (wrap shape.lo shape.width (not_of x))
+unfolding not_row
 not_holds shape Empty x t i h = h
-not_holds shape (Within p q) x t i h = rw (complement_is shape x t i) (cut_holds (top_of shape -ℤ q) (top_of shape -ℤ p) (top_of shape -ℤ x) (omega (arith, ints, h.1)) (omega (arith, ints, h.0)))
+not_holds shape (Within p q) x t i h = rw (complement_is shape.lo shape.hi shape.width t x i)
+    (cut_holds (top_of shape -ℤ q) (top_of shape -ℤ p) (top_of shape -ℤ x) (omega (arith, ints, h.1)) (omega (arith, ints, h.0)))
 not_holds shape All x t i h = tt
 
 -- the three operators by the same cases
-bits_hold : (exact : ℤ → ℤ → ℤ) (low : ℤ → ℤ → ℤ → ℤ → Interval) (shape : Shape) (a b : Interval) (x y : ℤ) → IsWithin shape.lo shape.hi (exact x y) → ((p q r s : ℤ) → pos 0 ≤ℤ p → pos 0 ≤ℤ r → p ≤ℤ x → x ≤ℤ q → r ≤ℤ y → y ≤ℤ s → Holds (low p q r s) (exact x y)) → Holds a x → Holds b y → Holds (by_bits shape exact low a b) (exact x y)
+bits_hold : (exact : ℤ → ℤ → ℤ) (low : ℤ → ℤ → ℤ → ℤ → Interval) (shape : Shape) (a b : Interval) (x y : ℤ) → IsWithin shape.lo shape.hi (exact x y)
+    → ((p q r s : ℤ) → pos 0 ≤ℤ p → pos 0 ≤ℤ r → p ≤ℤ x → x ≤ℤ q → r ≤ℤ y → y ≤ℤ s → Holds (low p q r s) (exact x y)) → Holds a x → Holds b y → Holds (by_bits shape exact low a b) (exact x y)
 bits_hold exact low shape a b x y inside g f e = ends_hold _ a b x y (exact x y) f e (λ p q r s _ _ h k i j.
     choose (λ v. Holds v (exact x y)) (are_one p q r s) _ _
-    (λ one. let t = and_parts (is_one p q) (is_one r s) one in let same : exact x y ≡ exact p r = rw (one_same p q x t.0 h k, one_same r s y t.1 i j) refl in rw same (cut_holds (exact p r) (exact p r) (exact p r) (omega (arith, ints)) (omega (arith, ints))))
+    (λ one. let t = and_parts (is_one p q) (is_one r s) one in let same : exact x y ≡ exact p r = rw (one_same p q x t.0 h k, one_same r s y t.1 i j) refl in
+    rw same (cut_holds (exact p r) (exact p r) (exact p r) (omega (arith, ints)) (omega (arith, ints))))
     (λ _. choose (λ v. Holds v (exact x y)) (are_natural p r) (low p q r s) (cut shape.lo shape.hi)
     (λ both. let t = and_parts (int_le (pos 0) p) (int_le (pos 0) r) both in let u = t.0 in let v = t.1 in g p q r s (omega (arith, ints)) (omega (arith, ints)) h k i j)
     (λ _. cut_holds shape.lo shape.hi (exact x y) inside.0 inside.1)))
 
-mask_above : (q s x y : ℤ) → pos 0 ≤ℤ x → x ≤ℤ q → pos 0 ≤ℤ y → y ≤ℤ s → (128 ≤ length_of (max (unsigned_abs q) (unsigned_abs s))) ⊎ ((x <ℤ pos (2 ^ length_of (max (unsigned_abs q) (unsigned_abs s)))) × (y <ℤ pos (2 ^ length_of (max (unsigned_abs q) (unsigned_abs s)))))
-mask_above q s x y h k i j = ⊎_elim (λ (l : max (unsigned_abs q) (unsigned_abs s) < 2 ^ length_of (max (unsigned_abs q) (unsigned_abs s))). inr (omega (arith, ints), omega (arith, ints))) inl (below_length (max (unsigned_abs q) (unsigned_abs s)))
+mask_above : (q s x y : ℤ) → pos 0 ≤ℤ x → x ≤ℤ q → pos 0 ≤ℤ y → y ≤ℤ s
+    → (128 ≤ length_of (max (unsigned_abs q) (unsigned_abs s))) ⊎
+    ((x <ℤ pos (2 ^ length_of (max (unsigned_abs q) (unsigned_abs s)))) × (y <ℤ pos (2 ^ length_of (max (unsigned_abs q) (unsigned_abs s)))))
+mask_above q s x y h k i j = ⊎_elim (λ (l : max (unsigned_abs q) (unsigned_abs s) < 2 ^ length_of (max (unsigned_abs q) (unsigned_abs s))). inr
+    (omega (arith, ints), omega (arith, ints))) inl (below_length (max (unsigned_abs q) (unsigned_abs s)))
 
 -- what is below each power of two that both are below is at most the mask
-mask_holds : (exact : ℤ → ℤ → ℤ) (lo q s x y : ℤ) → pos 0 ≤ℤ x → x ≤ℤ q → pos 0 ≤ℤ y → y ≤ℤ s → lo ≤ℤ exact x y → ((k : ℕ) → x <ℤ pos (2 ^ k) → y <ℤ pos (2 ^ k) → exact x y <ℤ pos (2 ^ k)) → Holds (cut lo (mask q s)) (exact x y)
+mask_holds : (exact : ℤ → ℤ → ℤ) (lo q s x y : ℤ) → pos 0 ≤ℤ x → x ≤ℤ q → pos 0 ≤ℤ y → y ≤ℤ s → lo ≤ℤ exact x y → ((k : ℕ) → x <ℤ pos (2 ^ k) → y <ℤ pos (2 ^ k) → exact x y <ℤ pos (2 ^ k))
+    → Holds (cut lo (mask q s)) (exact x y)
 mask_holds exact lo q s x y h k i j low below = ⊎_elim
     (λ (far : 128 ≤ length_of n). rw (cut_high lo (mask q s) (omega (arith, pow_mono {i = 127} {j = length_of n} (omega arith)))) tt)
-    (λ (near : (x <ℤ pos (2 ^ length_of n)) × (y <ℤ pos (2 ^ length_of n))). let b = below (length_of n) near.0 near.1 in cut_holds lo (mask q s) (exact x y) low (omega (arith, ints, pow_pos (length_of n))))
+    (λ (near : (x <ℤ pos (2 ^ length_of n)) × (y <ℤ pos (2 ^ length_of n))). let b = below (length_of n) near.0 near.1 in
+    cut_holds lo (mask q s) (exact x y) low (omega (arith, ints, pow_pos (length_of n))))
     (mask_above q s x y h k i j)
   where
     n : ℕ
     n = max (unsigned_abs q) (unsigned_abs s)
 
--- numbers of the type keep to it under an operator that keeps to signed and to natural ranges
-pub typed : (exact : ℤ → ℤ → ℤ) → ((k : ℕ) (x y : ℤ) → IsSigned k x → IsSigned k y → IsSigned k (exact x y)) → ((k : ℕ) (x y : ℤ) → pos 0 ≤ℤ x → pos 0 ≤ℤ y → x <ℤ pos (2 ^ k) → y <ℤ pos (2 ^ k) → (pos 0 ≤ℤ exact x y) × (exact x y <ℤ pos (2 ^ k))) → (shape : Shape) (x y : ℤ) → IsShape shape → IsWithin shape.lo shape.hi x → IsWithin shape.lo shape.hi y → IsWithin shape.lo shape.hi (exact x y)
-typed exact signed natural shape x y (w, v, kind) i j = ⊎_elim
-    (λ (u : (shape.lo ≡ pos 0) × (shape.hi ≡ pos (2 ^ shape.width - 1))). let a = u.0 in let b = u.1 in let p = pow_pos shape.width in let n = natural shape.width x y (omega (arith, ints)) (omega (arith, ints)) (omega (arith, ints)) (omega (arith, ints)) in (omega (arith, ints, n.0), omega (arith, ints, n.1)))
-    (λ (u : (shape.lo ≡ neg_ℤ (pos (2 ^ (shape.width - 1)))) × (shape.hi ≡ pos (2 ^ (shape.width - 1) - 1))). let a = u.0 in let b = u.1 in let p = pow_pos (shape.width - 1) in let n = signed (shape.width - 1) x y (record { low = omega (arith, ints); high = omega (arith, ints) }) (record { low = omega (arith, ints); high = omega (arith, ints) }) in (omega (arith, ints, n.low), omega (arith, ints, n.high)))
-    kind
-
 pub and_holds : CoversBits and_row and_of
+unfolding and_row
 and_holds shape a b x y t i j = bits_hold and_of (λ a b c d. cut (pos 0) (int_min b d)) shape a b x y
-    (typed and_of and_signed (λ k u v h l f g. let n = and_low u v h l in (n.0, omega (arith, ints, clamps, n.1))) shape x y t i j)
+    (and_within shape.lo shape.hi shape.width t x y i j)
     (λ p q r s l m h k f g. let n = and_low x y (omega (arith, ints)) (omega (arith, ints)) in cut_holds (pos 0) (int_min q s) (and_of x y) n.0 (omega (arith, ints, clamps, n.1)))
 
 pub or_holds : CoversBits or_row or_of
+unfolding or_row
 or_holds shape a b x y t i j = bits_hold or_of (λ a b c d. cut (int_max a c) (mask b d)) shape a b x y
-    (typed or_of or_signed (λ k u v h l f g. or_low u v k h l f g) shape x y t i j)
-    (λ p q r s l m h k f g. let u : pos 0 ≤ℤ x = omega (arith, ints) in let v : pos 0 ≤ℤ y = omega (arith, ints) in mask_holds or_of (int_max p r) q s x y u k v g (omega (arith, ints, clamps, or_above x y u v)) (λ n e d. (or_low x y n u v e d).1))
+    (or_within shape.lo shape.hi shape.width t x y i j)
+    (λ p q r s l m h k f g. let u : pos 0 ≤ℤ x = omega (arith, ints) in let v : pos 0 ≤ℤ y = omega (arith, ints) in
+    mask_holds or_of (int_max p r) q s x y u k v g (omega (arith, ints, clamps, or_above x y u v)) (λ n e d. (or_low x y n u v e d).1))
 
 pub xor_holds : CoversBits xor_row xor_of
+unfolding xor_row
 xor_holds shape a b x y t i j = bits_hold xor_of (λ a b c d. cut (pos 0) (mask b d)) shape a b x y
-    (typed xor_of xor_signed (λ k u v h l f g. xor_low u v k h l f g) shape x y t i j)
-    (λ p q r s l m h k f g. let u : pos 0 ≤ℤ x = omega (arith, ints) in let v : pos 0 ≤ℤ y = omega (arith, ints) in mask_holds xor_of (pos 0) q s x y u k v g (xor_natural x y u v) (λ n e d. (xor_low x y n u v e d).1))
+    (xor_within shape.lo shape.hi shape.width t x y i j)
+    (λ p q r s l m h k f g. let u : pos 0 ≤ℤ x = omega (arith, ints) in let v : pos 0 ≤ℤ y = omega (arith, ints) in
+    mask_holds xor_of (pos 0) q s x y u k v g (xor_natural x y u v) (λ n e d. (xor_low x y n u v e d).1))
 
 -- ---- conversion
 
 pub convert_holds : CoversConversion
+unfolding convert_row
 convert_holds shape Empty x t h = h
 convert_holds shape (Within p q) x t h =
-    let r = range_of_type shape.lo shape.hi shape.width t in
     choose (λ v. Holds v (wrap shape.lo shape.width x)) (is_inside p q shape.lo shape.hi) _ _
-    (λ e. let i = and_parts (int_le shape.lo p) (int_le q shape.hi) e in let l = i.0 in let m = i.1 in rw (wrap_same shape.lo shape.hi shape.width x r.span (omega (arith, ints, h.0)) (omega (arith, ints, h.1))) h)
+    (λ e. let i = and_parts (int_le shape.lo p) (int_le q shape.hi) e in let l = i.0 in let m = i.1 in
+    rw (wrap_kept shape.lo shape.hi shape.width t x (omega (arith, ints, h.0), omega (arith, ints, h.1))) h)
     (λ _. choose (λ v. Holds v (wrap shape.lo shape.width x)) (is_one p q) _ _
-    (λ e. rw (one_same p q x e h.0 h.1) (cut_holds (wrap shape.lo shape.width p) (wrap shape.lo shape.width p) (wrap shape.lo shape.width p) (omega (arith, ints)) (omega (arith, ints))))
-    (λ _. cut_holds shape.lo shape.hi _ (wrap_low shape.lo shape.width x) (wrap_high shape.lo shape.hi shape.width x r.span)))
-convert_holds shape All x t h = let r = range_of_type shape.lo shape.hi shape.width t in cut_holds shape.lo shape.hi _ (wrap_low shape.lo shape.width x) (wrap_high shape.lo shape.hi shape.width x r.span)
+    (λ e. rw (one_same p q x e h.0 h.1) (exactly (wrap shape.lo shape.width p)))
+    (λ _. type_holds shape t x))
+  where
+    exactly : (z : ℤ) → Holds (cut z z) z
+    exactly z = cut_holds z z z (omega (arith, ints)) (omega (arith, ints))
+
+    type_holds : (shape : Shape) → IsShape shape → (x : ℤ) → Holds (cut shape.lo shape.hi) (wrap shape.lo shape.width x)
+    type_holds shape t x = let w = wrap_within shape.lo shape.hi shape.width t x in cut_holds shape.lo shape.hi _ w.0 w.1
+convert_holds shape All x t h = let w = wrap_within shape.lo shape.hi shape.width t x in cut_holds shape.lo shape.hi _ w.0 w.1

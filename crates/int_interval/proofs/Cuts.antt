@@ -1,20 +1,15 @@
 -- The cut at the bound.
-use Rattle.std.proofs.Common.{◌≡◌, ◌^◌, ◌≤◌, ◌<◌, max, ℤ, pos, ◌≤ℤ◌, ◌<ℤ◌, unsigned_abs, Option, Some, None, Bool, false, cond, ◌⊎◌, refl, ap, sym, arith, inl, inr, ⊎_elim}
+use Rattle.std.proofs.Common.{◌≡◌, ◌^◌, ◌≤◌, ◌<◌, max, ℤ, pos, ◌≤ℤ◌, ◌<ℤ◌, unsigned_abs, Option, Some, None, Bool, false, ◌⊎◌, refl, sym, arith, inl, inr, ⊎_elim}
 use Rattle.std.proofs.lemmas.Int.{ints, clamps, by_lt_z}
-use Rattle.std.proofs.lemmas.Bool.{cases_lt, le-leb, lt-leb}
+use Rattle.std.proofs.lemmas.Bool.{cases_lt}
 use lib.Pow.{pow_mono}
 use Rattle.machine_ints.specs.Bits.{length_of}
 use Rattle.machine_ints.specs.Bound.{bounded}
 use Rattle.machine_ints.specs.Corners.{least4, greatest4}
+use Rattle.machine_ints.proofs.BoundLaws.{bounded_in, bounded_out}
 use Rattle.int_interval.specs.declared.interval.Interval.{Interval}
 use Rattle.int_interval.specs.declared.interval.Interval.TheVariants.{Within, All}
 use Rattle.int_interval.specs.Rows.{range_of, cut, four_of, corner_cut, mask, are_one, reach, remainder_low, remainder_high, remainders}
-
-pub bounded_in : (z : ℤ) → unsigned_abs z ≤ 2 ^ 126 → bounded z ≡ Some z
-bounded_in z h = ap (λ (b : Bool). cond b (Some z) None) (le-leb (unsigned_abs z) (2 ^ 126) h)
-
-pub bounded_out : (z : ℤ) → 2 ^ 126 < unsigned_abs z → bounded z ≡ None
-bounded_out z h = ap (λ (b : Bool). cond b (Some z) None) (lt-leb (unsigned_abs z) (2 ^ 126) h)
 
 pub cut_in : (lo hi : ℤ) → unsigned_abs lo ≤ 2 ^ 126 → unsigned_abs hi ≤ 2 ^ 126 → cut lo hi ≡ Within lo hi
 cut_in lo hi h k = rw (bounded_in lo h, bounded_in hi k) refl
@@ -31,10 +26,13 @@ cut_high lo hi h = rw (bounded_out hi h) (no_end (bounded lo))
 
 -- a corner past the bound
 far : (w x y z : ℤ) → (2 ^ 126 < unsigned_abs w) ⊎ ((2 ^ 126 < unsigned_abs x) ⊎ ((2 ^ 126 < unsigned_abs y) ⊎ (2 ^ 126 < unsigned_abs z))) → All ≡ cut (least4 w x y z) (greatest4 w x y z)
-far w x y z h = ⊎_elim (one w (omega (arith, ints, clamps)) (omega (arith, ints, clamps))) (⊎_elim (one x (omega (arith, ints, clamps)) (omega (arith, ints, clamps))) (⊎_elim (one y (omega (arith, ints, clamps)) (omega (arith, ints, clamps))) (one z (omega (arith, ints, clamps)) (omega (arith, ints, clamps))))) h
+far w x y z h = ⊎_elim (one w (omega (arith, ints, clamps)) (omega (arith, ints, clamps)))
+    (⊎_elim (one x (omega (arith, ints, clamps)) (omega (arith, ints, clamps)))
+    (⊎_elim (one y (omega (arith, ints, clamps)) (omega (arith, ints, clamps))) (one z (omega (arith, ints, clamps)) (omega (arith, ints, clamps))))) h
   where
     one : (e : ℤ) → least4 w x y z ≤ℤ e → e ≤ℤ greatest4 w x y z → 2 ^ 126 < unsigned_abs e → All ≡ cut (least4 w x y z) (greatest4 w x y z)
-    one e low high h = by_lt_z e (pos 0) (λ (n : e <ℤ pos 0). sym (cut_low (least4 w x y z) (greatest4 w x y z) (omega (arith, ints)))) (λ (n : pos 0 ≤ℤ e). sym (cut_high (least4 w x y z) (greatest4 w x y z) (omega (arith, ints))))
+    one e low high h = by_lt_z e (pos 0) (λ (n : e <ℤ pos 0). sym (cut_low (least4 w x y z) (greatest4 w x y z) (omega (arith, ints))))
+        (λ (n : pos 0 ≤ℤ e). sym (cut_high (least4 w x y z) (greatest4 w x y z) (omega (arith, ints))))
 
 four-bounded : (w x y z : ℤ) → four_of (bounded w) (bounded x) (bounded y) (bounded z) ≡ cut (least4 w x y z) (greatest4 w x y z)
 four-bounded w x y z =
@@ -58,6 +56,7 @@ pub mask_out : (b d : ℤ) → 126 < length_of (max (unsigned_abs b) (unsigned_a
 mask_out b d h = sym (bounded_out (mask b d) (omega (arith, pow_mono {i = 127} {j = length_of (max (unsigned_abs b) (unsigned_abs d))} h)))
 
 -- the last case of the remainders
-pub remainders_many : (a b c d : ℤ) (one none : Bool) (r : Interval) → none ≡ are_one c (pos 0) d (pos 0) → none ≡ false → one ≡ are_one a b c d → one ≡ false → r ≡ cut (remainder_low a (reach c d)) (remainder_high b (reach c d)) → r ≡ remainders a b c d
+pub remainders_many : (a b c d : ℤ) (one none : Bool) (r : Interval) → none ≡ are_one c (pos 0) d (pos 0) → none ≡ false → one ≡ are_one a b c d → one ≡ false
+    → r ≡ cut (remainder_low a (reach c d)) (remainder_high b (reach c d)) → r ≡ remainders a b c d
 unfolding remainders
 remainders_many a b c d one none r e f g h k = rw (← e, f, ← g, h) k

@@ -1,11 +1,12 @@
 -- What the answers stand for (the soundness of an abstract domain, after Cousot and Cousot).
-use Rattle.std.specs.Prelude.{◌≢◌, ◌↔◌, ℤ, pos, ◌≤ℤ◌, IsTrue}
+use Rattle.std.specs.Prelude.{◌≡◌, ◌≢◌, ◌↔◌, ℤ, pos, ◌≤ℤ◌, IsTrue}
+use Rattle.machine_ints.specs.Bits.{not_of}
 use Rattle.machine_ints.specs.Convert.{wrap}
 use Rattle.machine_ints.specs.Operators.{IsWithin}
 use Rattle.int_interval.specs.declared.shape.Shape.{Shape}
 use Rattle.int_interval.specs.declared.interval.Interval.{Interval}
 use Rattle.int_interval.specs.declared.interval.Interval.TheVariants.{Empty, Within, All}
-use Rattle.int_interval.specs.Rows.{join_row, meet_row, included_row, convert_row}
+use Rattle.int_interval.specs.Rows.{is_empty, contains_row, is_just, join_row, meet_row, included_row, not_row, convert_row}
 use Rattle.int_interval.specs.Shapes.{IsShape, IsShift}
 
 -- the interval stands for the number
@@ -32,9 +33,27 @@ CoversBits row exact =
     (shape : Shape) (a b : Interval) (x y : ℤ) → IsShape shape → IsWithin shape.lo shape.hi x → IsWithin shape.lo shape.hi y
     → Holds a x → Holds b y → Holds (row shape a b) (exact x y)
 
+-- a complement stands for the complement of each number of the type
+abbrev pub CoversComplement : Type 0
+CoversComplement =
+    (shape : Shape) (a : Interval) (x : ℤ) → IsShape shape → IsWithin shape.lo shape.hi x → Holds a x
+    → Holds (not_row shape a) (wrap shape.lo shape.width (not_of x))
+
 -- a conversion stands for the conversion of each number
 abbrev pub CoversConversion : Type 0
 CoversConversion = (shape : Shape) (a : Interval) (x : ℤ) → IsShape shape → Holds a x → Holds (convert_row shape a) (wrap shape.lo shape.width x)
+
+-- the test of membership
+abbrev pub ContainsIsMember : Type 0
+ContainsIsMember = (a : Interval) (z : ℤ) → IsTrue (contains_row a z) ↔ Holds a z
+
+-- what is empty has no number, and what has its ends in order has one else
+abbrev pub EmptyHasNone : Type 0
+EmptyHasNone = (a : Interval) → IsTrue (is_empty a) → (z : ℤ) → ¬ (Holds a z)
+
+-- what is one number has no other
+abbrev pub JustIsOne : Type 0
+JustIsOne = (a : Interval) (n z : ℤ) → IsTrue (is_just a n) → Holds a z → z ≡ n
 
 -- a join is an upper bound of both
 abbrev pub JoinIsUpper : Type 0

@@ -1,5 +1,5 @@
 -- What each operator answers (this project's own choice of bounds; after the interval domain of Cousot and Cousot).
--- All of it is over whole numbers without bound, but for the cut: past 2^126 an end isn't kept.
+-- A row is named after its operator: `sum_row a b` is the interval of the sums. All of it is over whole numbers without bound, but for the cut: past 2^126 an end isn't kept.
 use Rattle.std.specs.Prelude.{ℕ, ◌-◌, ◌^◌, ℤ, pos, negsuc, neg_ℤ, ◌+ℤ◌, ◌-ℤ◌, ◌*ℤ◌, int_lt, int_le, int_div, int_rem, unsigned_abs, max, Bool, ◌&&◌, if◌then◌else◌, Option, Some, None, true, false}
 use Rattle.std.specs.Int.{int_min, int_max}
 use Rattle.machine_ints.specs.Bits.{and_of, or_of, xor_of, length_of}
@@ -69,21 +69,38 @@ is_inside a b c d = int_le c a && int_le b d
 
 -- ---- sets
 
-abbrev pub join_row : Interval → Interval → Interval
+abbrev pub is_empty : Interval → Bool
+is_empty Empty = true
+is_empty (Within lo hi) = false
+is_empty All = false
+
+-- the number is in the interval
+abbrev pub contains_row : Interval → ℤ → Bool
+contains_row Empty number = false
+contains_row (Within lo hi) number = int_le lo number && int_le number hi
+contains_row All number = true
+
+-- the interval is this number alone
+abbrev pub is_just : Interval → ℤ → Bool
+is_just Empty number = false
+is_just (Within lo hi) number = is_one lo number && is_one hi number
+is_just All number = false
+
+unfoldable pub join_row : Interval → Interval → Interval
 join_row Empty right = right
 join_row (Within a b) Empty = Within a b
 join_row (Within a b) (Within c d) = cut (int_min a c) (int_max b d)
 join_row (Within a b) All = All
 join_row All right = All
 
-abbrev pub meet_row : Interval → Interval → Interval
+unfoldable pub meet_row : Interval → Interval → Interval
 meet_row Empty right = Empty
 meet_row (Within a b) Empty = Empty
 meet_row (Within a b) (Within c d) = if int_le (int_max a c) (int_min b d) then Within (int_max a c) (int_min b d) else Empty
 meet_row (Within a b) All = Within a b
 meet_row All right = right
 
-abbrev pub included_row : Interval → Interval → Bool
+unfoldable pub included_row : Interval → Interval → Bool
 included_row Empty right = true
 included_row (Within a b) Empty = false
 included_row (Within a b) (Within c d) = is_inside a b c d
@@ -94,16 +111,16 @@ included_row All All = true
 
 -- ---- arithmetic
 
-abbrev pub negative_row : Interval → Interval
+unfoldable pub negative_row : Interval → Interval
 negative_row = by_range (λ a b. cut (neg_ℤ b) (neg_ℤ a))
 
-abbrev pub sum_row : Interval → Interval → Interval
+unfoldable pub sum_row : Interval → Interval → Interval
 sum_row = by_ends (λ a b c d. cut (a +ℤ c) (b +ℤ d))
 
-abbrev pub difference_row : Interval → Interval → Interval
+unfoldable pub difference_row : Interval → Interval → Interval
 difference_row = by_ends (λ a b c d. cut (a -ℤ d) (b -ℤ c))
 
-abbrev pub product_row : Interval → Interval → Interval
+unfoldable pub product_row : Interval → Interval → Interval
 product_row = by_ends (corner_cut ◌*ℤ◌)
 
 -- the quotients by the divisors below 0, and by those above
@@ -113,7 +130,7 @@ quotients_below a b c d = if int_lt c (pos 0) then corner_cut int_div a b c (int
 unfoldable pub quotients_above : ℤ → ℤ → ℤ → ℤ → Interval
 quotients_above a b c d = if int_lt (pos 0) d then corner_cut int_div a b (int_max c (pos 1)) d else Empty
 
-abbrev pub quotient_row : Interval → Interval → Interval
+unfoldable pub quotient_row : Interval → Interval → Interval
 quotient_row = by_ends (λ a b c d. join_row (quotients_below a b c d) (quotients_above a b c d))
 
 -- the greatest absolute divisor less 1
@@ -132,21 +149,21 @@ remainders a b c d =
     else (if are_one a b c d then cut (int_rem a c) (int_rem a c)
     else cut (remainder_low a (reach c d)) (remainder_high b (reach c d)))
 
-abbrev pub remainder_row : Interval → Interval → Interval
+unfoldable pub remainder_row : Interval → Interval → Interval
 remainder_row = by_ends remainders
 
 -- ---- shifts
 
-abbrev pub shl_row : Interval → Interval → Interval
+unfoldable pub shl_row : Interval → Interval → Interval
 shl_row = by_ends (corner_cut shl_of)
 
-abbrev pub shr_row : Interval → Interval → Interval
+unfoldable pub shr_row : Interval → Interval → Interval
 shr_row = by_ends (corner_cut shr_of)
 
 -- ---- bits
 
 -- `~x` is -1 - x, and of an unsigned type its greatest number less x
-abbrev pub not_row : Shape → Interval → Interval
+unfoldable pub not_row : Shape → Interval → Interval
 not_row shape = by_range (λ a b. cut (top_of shape -ℤ b) (top_of shape -ℤ a))
 
 -- 2^k - 1, where k is the least with both ends below 2^k
@@ -160,18 +177,18 @@ by_bits shape one low = by_ends (λ a b c d.
     else (if are_natural a c then low a b c d
     else cut shape.lo shape.hi))
 
-abbrev pub and_row : Shape → Interval → Interval → Interval
+unfoldable pub and_row : Shape → Interval → Interval → Interval
 and_row shape = by_bits shape and_of (λ a b c d. cut (pos 0) (int_min b d))
 
-abbrev pub or_row : Shape → Interval → Interval → Interval
+unfoldable pub or_row : Shape → Interval → Interval → Interval
 or_row shape = by_bits shape or_of (λ a b c d. cut (int_max a c) (mask b d))
 
-abbrev pub xor_row : Shape → Interval → Interval → Interval
+unfoldable pub xor_row : Shape → Interval → Interval → Interval
 xor_row shape = by_bits shape xor_of (λ a b c d. cut (pos 0) (mask b d))
 
 -- ---- conversion
 
-abbrev pub convert_row : Shape → Interval → Interval
+unfoldable pub convert_row : Shape → Interval → Interval
 convert_row shape Empty = Empty
 convert_row shape (Within a b) =
     if is_inside a b shape.lo shape.hi then Within a b

@@ -1,4 +1,4 @@
-//! `+ - * / %` and unary `-` on intervals.
+//! `+ - * / %` and unary `-` on intervals, of whole numbers without bound and as operators of C.
 
 ghost use Rattle.std.specs.Prelude.{◌≡◌, ◌≢◌, ◌*ℤ◌, ◌≤ℤ◌, pos, int_div, int_rem, unsigned_abs};
 ghost use Rattle.int_interval.specs.Rows.{
@@ -18,13 +18,14 @@ ghost use Rattle.int_interval.specs.Rows.{
   sum_row,
 };
 
-use crate::interval::{Interval, are_single, corners, cut_range, range};
+use crate::interval::{Interval, are_one, corners, cut_range, range};
 use crate::shape::Shape;
 use machine_ints::{difference, negative, product, quotient, remainder, sum};
 
 impl Interval {
-    /// Unary `-`, before any check.
-    pub fn neg(&self, shape: &Shape) -> Interval
+    /// The numbers `-x`.
+    #[tactic(auto, unfolding(crate::specs::Rows::negative_row))]
+    pub fn negation(&self) -> Interval
         ensures { result ≡ negative_row self.now }
     {
         match *self {
@@ -34,8 +35,9 @@ impl Interval {
         }
     }
 
-    /// `+`, before any check.
-    pub fn add(&self, other: &Interval, shape: &Shape) -> Interval
+    /// The sums.
+    #[tactic(auto, unfolding(crate::specs::Rows::sum_row))]
+    pub fn sum(&self, other: &Interval) -> Interval
         ensures { result ≡ sum_row self.now other.now }
     {
         match (*self, *other) {
@@ -48,8 +50,9 @@ impl Interval {
         }
     }
 
-    /// `-`, before any check.
-    pub fn sub(&self, other: &Interval, shape: &Shape) -> Interval
+    /// The differences.
+    #[tactic(auto, unfolding(crate::specs::Rows::difference_row))]
+    pub fn difference(&self, other: &Interval) -> Interval
         ensures { result ≡ difference_row self.now other.now }
     {
         match (*self, *other) {
@@ -61,8 +64,9 @@ impl Interval {
         }
     }
 
-    /// `*`, before any check.
-    pub fn mul(&self, other: &Interval, shape: &Shape) -> Interval
+    /// The products.
+    #[tactic(auto, unfolding(crate::specs::Rows::product_row))]
+    pub fn product(&self, other: &Interval) -> Interval
         ensures { result ≡ product_row self.now other.now }
     {
         match (*self, *other) {
@@ -74,8 +78,9 @@ impl Interval {
         }
     }
 
-    /// `/`, before any check. The divisor 0 gives nothing.
-    pub fn div(&self, other: &Interval, shape: &Shape) -> Interval
+    /// The quotients towards zero. The divisor 0 gives nothing.
+    #[tactic(auto, unfolding(crate::specs::Rows::quotient_row))]
+    pub fn quotient(&self, other: &Interval) -> Interval
         ensures { result ≡ quotient_row self.now other.now }
     {
         match (*self, *other) {
@@ -87,8 +92,9 @@ impl Interval {
         }
     }
 
-    /// `%`, before any check. The divisor 0 gives nothing.
-    pub fn rem(&self, other: &Interval, shape: &Shape) -> Interval
+    /// The remainders, with the sign of the dividend. The divisor 0 gives nothing.
+    #[tactic(auto, unfolding(crate::specs::Rows::remainder_row))]
+    pub fn remainder(&self, other: &Interval) -> Interval
         ensures { result ≡ remainder_row self.now other.now }
     {
         match (*self, *other) {
@@ -98,6 +104,51 @@ impl Interval {
             ),
             _ => Interval::All,
         }
+    }
+}
+
+/// The same as operators of C on a type, before any check.
+impl Interval {
+    /// Unary `-`.
+    pub fn neg(&self, shape: &Shape) -> Interval
+        ensures { result ≡ negative_row self.now }
+    {
+        self.negation()
+    }
+
+    /// `+`.
+    pub fn add(&self, other: &Interval, shape: &Shape) -> Interval
+        ensures { result ≡ sum_row self.now other.now }
+    {
+        self.sum(other)
+    }
+
+    /// `-`.
+    pub fn sub(&self, other: &Interval, shape: &Shape) -> Interval
+        ensures { result ≡ difference_row self.now other.now }
+    {
+        self.difference(other)
+    }
+
+    /// `*`.
+    pub fn mul(&self, other: &Interval, shape: &Shape) -> Interval
+        ensures { result ≡ product_row self.now other.now }
+    {
+        self.product(other)
+    }
+
+    /// `/`.
+    pub fn div(&self, other: &Interval, shape: &Shape) -> Interval
+        ensures { result ≡ quotient_row self.now other.now }
+    {
+        self.quotient(other)
+    }
+
+    /// `%`.
+    pub fn rem(&self, other: &Interval, shape: &Shape) -> Interval
+        ensures { result ≡ remainder_row self.now other.now }
+    {
+        self.remainder(other)
     }
 }
 
@@ -148,9 +199,9 @@ fn by_positive(a: i128, b: i128, c: i128, d: i128) -> Interval
 fn remainders_of(a: i128, b: i128, c: i128, d: i128) -> Interval
     ensures { result ≡ remainders a b c d }
 {
-    if are_single(c, 0, d, 0) {
+    if are_one(c, 0, d, 0) {
         Interval::Empty
-    } else if are_single(a, b, c, d) {
+    } else if are_one(a, b, c, d) {
         one_remainder(a, c)
     } else {
         many_remainders(a, b, c, d)

@@ -4,12 +4,13 @@ ghost use Rattle.std.specs.Prelude.{◌≡◌};
 ghost use Rattle.machine_ints.specs.Bound.{bounded};
 ghost use Rattle.int_interval.specs.Rows.{and_row, mask, not_row, or_row, xor_row};
 
-use crate::interval::{Interval, are_not_negative, are_single, cut_range, range};
+use crate::interval::{Interval, are_not_negative, are_one, cut_range, range};
 use crate::shape::Shape;
 use machine_ints::{and, bit_length, difference, or, power_of_two, within_bound, xor};
 
 impl Interval {
     /// `~`.
+    #[tactic(auto, unfolding(crate::specs::Rows::not_row))]
     pub fn invert(&self, shape: &Shape) -> Interval
         ensures { result ≡ not_row shape.now self.now }
     {
@@ -24,13 +25,14 @@ impl Interval {
     }
 
     /// `&`.
+    #[tactic(auto, unfolding(crate::specs::Rows::and_row))]
     pub fn and(&self, other: &Interval, shape: &Shape) -> Interval
         ensures { result ≡ and_row shape.now self.now other.now }
     {
         match (*self, *other) {
             (Interval::Empty, _) | (_, Interval::Empty) => Interval::Empty,
             (Interval::Within { lo: a, hi: b }, Interval::Within { lo: c, hi: d }) => {
-                if are_single(a, b, c, d) {
+                if are_one(a, b, c, d) {
                     let exact = and(a, c);
                     cut_range(exact, exact)
                 } else if are_not_negative(a, c) {
@@ -44,13 +46,14 @@ impl Interval {
     }
 
     /// `|`.
+    #[tactic(auto, unfolding(crate::specs::Rows::or_row))]
     pub fn or(&self, other: &Interval, shape: &Shape) -> Interval
         ensures { result ≡ or_row shape.now self.now other.now }
     {
         match (*self, *other) {
             (Interval::Empty, _) | (_, Interval::Empty) => Interval::Empty,
             (Interval::Within { lo: a, hi: b }, Interval::Within { lo: c, hi: d }) => {
-                if are_single(a, b, c, d) {
+                if are_one(a, b, c, d) {
                     let exact = or(a, c);
                     cut_range(exact, exact)
                 } else if are_not_negative(a, c) {
@@ -64,13 +67,14 @@ impl Interval {
     }
 
     /// `^`.
+    #[tactic(auto, unfolding(crate::specs::Rows::xor_row))]
     pub fn xor(&self, other: &Interval, shape: &Shape) -> Interval
         ensures { result ≡ xor_row shape.now self.now other.now }
     {
         match (*self, *other) {
             (Interval::Empty, _) | (_, Interval::Empty) => Interval::Empty,
             (Interval::Within { lo: a, hi: b }, Interval::Within { lo: c, hi: d }) => {
-                if are_single(a, b, c, d) {
+                if are_one(a, b, c, d) {
                     let exact = xor(a, c);
                     cut_range(exact, exact)
                 } else if are_not_negative(a, c) {

@@ -3,7 +3,22 @@
 ghost use Rattle.std.specs.Prelude.{◌≡◌, ◌↔◌, IsTrue, ℤ, pos};
 ghost use Rattle.machine_ints.specs.Corners.{greatest4, least4};
 ghost use Rattle.int_interval.specs.Laws.{Holds};
-ghost use Rattle.int_interval.specs.Rows.{are_natural, are_one, convert_row, cut, four_of, included_row, is_inside, is_one, join_row, meet_row, range_of};
+ghost use Rattle.int_interval.specs.Rows.{
+  are_natural,
+  are_one,
+  contains_row,
+  convert_row,
+  cut,
+  four_of,
+  included_row,
+  is_empty,
+  is_inside,
+  is_just,
+  is_one,
+  join_row,
+  meet_row,
+  range_of,
+};
 ghost use Rattle.int_interval.specs.Shapes.{IsShape};
 
 use crate::shape::Shape;
@@ -67,8 +82,15 @@ fn greatest(p: i128, q: i128, r: i128, s: i128) -> i128
     p.max(q).max(r.max(s))
 }
 
+/// Whether the two ends are one number.
+pub fn is_one(lo: i128, hi: i128) -> bool
+    ensures { result ≡ is_one lo hi }
+{
+    lo == hi
+}
+
 /// Whether each pair of ends is one number.
-pub(crate) fn are_single(a: i128, b: i128, c: i128, d: i128) -> bool
+pub fn are_one(a: i128, b: i128, c: i128, d: i128) -> bool
     ensures { result ≡ are_one a b c d }
 {
     a == b && c == d
@@ -96,9 +118,32 @@ impl Interval {
         cut_range(lo, hi)
     }
 
+    /// Whether the interval has no number.
+    pub fn is_empty(&self) -> bool
+        ensures { result ≡ is_empty self.now }
+    {
+        match *self {
+            Interval::Empty => true,
+            Interval::Within { lo, hi } => false,
+            Interval::All => false,
+        }
+    }
+
+    /// Whether the interval is this number alone.
+    pub fn is_just(&self, number: i128) -> bool
+        ensures { result ≡ is_just self.now number }
+    {
+        match *self {
+            Interval::Empty => false,
+            Interval::Within { lo, hi } => lo == number && hi == number,
+            Interval::All => false,
+        }
+    }
+
     /// Whether the interval stands for the number.
     pub fn contains(&self, number: i128) -> bool
-        ensures { IsTrue result ↔ Holds self.now number }
+        ensures value { result ≡ contains_row self.now number }
+        ensures member { IsTrue result ↔ Holds self.now number }
     {
         match *self {
             Interval::Empty => false,
@@ -108,6 +153,7 @@ impl Interval {
     }
 
     /// The least interval with the numbers of both.
+    #[tactic(auto, unfolding(crate::specs::Rows::join_row))]
     pub fn join(&self, other: &Interval) -> Interval
         ensures { result ≡ join_row self.now other.now }
     {
@@ -123,6 +169,7 @@ impl Interval {
     }
 
     /// The numbers that both have.
+    #[tactic(auto, unfolding(crate::specs::Rows::meet_row))]
     pub fn meet(&self, other: &Interval) -> Interval
         ensures { result ≡ meet_row self.now other.now }
     {
@@ -143,6 +190,7 @@ impl Interval {
     }
 
     /// Whether the ends lie within those of the other.
+    #[tactic(auto, unfolding(crate::specs::Rows::included_row))]
     pub fn included(&self, other: &Interval) -> bool
         ensures { result ≡ included_row self.now other.now }
     {
@@ -156,6 +204,7 @@ impl Interval {
     }
 
     /// The conversion to a type (C11 6.3.1.3): exact within the type and of one number, else the type's range.
+    #[tactic(auto, unfolding(crate::specs::Rows::convert_row))]
     pub fn convert(&self, shape: &Shape) -> Interval
         requires { IsShape shape.now }
         ensures { result ≡ convert_row shape.now self.now }
@@ -168,23 +217,17 @@ impl Interval {
     }
 }
 
+#[tactic(auto, unfolding(crate::specs::Rows::convert_row))]
 fn converted(lo: i128, hi: i128, shape: &Shape) -> Interval
     requires { IsShape shape.now }
     ensures { result ≡ convert_row shape.now (Interval.Within lo hi) }
 {
     if is_within(lo, hi, shape.lo, shape.hi) {
         Interval::Within { lo, hi }
-    } else if same(lo, hi) {
+    } else if is_one(lo, hi) {
         let wrapped = wrap(lo, shape.lo, shape.width);
         cut_range(wrapped, wrapped)
     } else {
         cut_range(shape.lo, shape.hi)
     }
-}
-
-/// Whether the two are one number.
-fn same(left: i128, right: i128) -> bool
-    ensures { result ≡ is_one left right }
-{
-    left == right
 }

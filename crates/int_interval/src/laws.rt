@@ -2,17 +2,20 @@
 
 ghost use Rattle.std.specs.Prelude.{ℤ, neg_ℤ, ◌+ℤ◌, ◌-ℤ◌, ◌*ℤ◌, int_div, int_rem};
 ghost use Rattle.machine_ints.specs.Bits.{and_of, not_of, or_of, xor_of};
-ghost use Rattle.machine_ints.specs.Convert.{wrap};
 ghost use Rattle.machine_ints.specs.Operators.{IsWithin, shl_of, shr_of};
 ghost use Rattle.int_interval.specs.Laws.{
+  ContainsIsMember,
   Covers,
   CoversBits,
+  CoversComplement,
   CoversConversion,
   CoversDivision,
   CoversShift,
+  EmptyHasNone,
   Holds,
   IncludedIsSubset,
   JoinIsUpper,
+  JustIsOne,
   MeetIsBoth,
 };
 ghost use Rattle.int_interval.specs.Rows.{
@@ -51,7 +54,7 @@ pub fn shifts_cover()
 
 /// And so do the bit operators, on numbers of the type.
 pub fn bits_cover()
-    ensures invert { (shape : Shape) (a : Interval) (x : ℤ) → IsShape shape → IsWithin shape.lo shape.hi x → Holds a x → Holds (not_row shape a) (wrap shape.lo shape.width (not_of x)) }
+    ensures invert { CoversComplement }
     ensures and { CoversBits and_row and_of }
     ensures or { CoversBits or_row or_of }
     ensures xor { CoversBits xor_row xor_of }
@@ -62,8 +65,11 @@ pub fn conversion_covers()
     ensures { CoversConversion }
 {}
 
-/// A join is an upper bound, a meet is exact, and what is included is a subset.
+/// What the tests say of the numbers; a join is an upper bound, a meet is exact, and what is included is a subset.
 pub fn set_laws()
+    ensures contains { ContainsIsMember }
+    ensures is_empty { EmptyHasNone }
+    ensures is_just { JustIsOne }
     ensures join { JoinIsUpper }
     ensures meet { MeetIsBoth }
     ensures included { IncludedIsSubset }

@@ -10,7 +10,7 @@ mod said;
 mod shape;
 mod shifts;
 
-pub use interval::Interval;
+pub use interval::{Interval, are_one, is_one};
 pub use laws::{arithmetic_covers, bits_cover, conversion_covers, set_laws, shifts_cover};
 pub use said::Said;
 pub use shape::Shape;

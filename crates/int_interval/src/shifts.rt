@@ -12,6 +12,7 @@ use machine_ints::{shifted_left, shifted_right, within_bound};
 
 impl Interval {
     /// `<<`, before the check of signed overflow. Asks that the right operand is within 0 to the width less 1.
+    #[tactic(auto, unfolding(crate::specs::Rows::shl_row))]
     pub fn shl(&self, other: &Interval, shape: &Shape) -> Interval
         requires shape { IsShape shape.now }
         requires shift { IsShift shape.now other.now }
@@ -27,6 +28,7 @@ impl Interval {
     }
 
     /// `>>`. Asks that the right operand is within 0 to the width less 1.
+    #[tactic(auto, unfolding(crate::specs::Rows::shr_row))]
     pub fn shr(&self, other: &Interval, shape: &Shape) -> Interval
         requires shape { IsShape shape.now }
         requires shift { IsShift shape.now other.now }

@@ -47,6 +47,20 @@ fn arithmetic(rt: HostRuntime) {
 }
 
 #[test]
+fn terms_without_a_type(rt: HostRuntime) {
+    let (small, mixed) = (within(-5, 7), within(0, 3));
+    assert_eq!(rt; small.negation(), within(-7, 5));
+    assert_eq!(rt; small.sum(&mixed), within(-5, 10));
+    assert_eq!(rt; small.difference(&mixed), within(-8, 7));
+    assert_eq!(rt; small.product(&within(-3, 2)), within(-21, 15));
+    assert_eq!(rt; small.quotient(&within(-2, 3)), within(-7, 7));
+    assert_eq!(rt; small.remainder(&mixed), within(-2, 2));
+    assert!(rt; small.is_just(-5) == false && within(4, 4).is_just(4) && !Interval::All.is_just(0));
+    assert!(rt; Interval::Empty.is_empty() && !small.is_empty() && !Interval::All.is_empty());
+    assert!(rt; is_one(3, 3) && !is_one(3, 4) && are_one(1, 1, 2, 2) && !are_one(1, 1, 2, 3));
+}
+
+#[test]
 fn bits(rt: HostRuntime) {
     let shape = signed_byte();
     assert_eq!(rt; within(-3, 5).invert(&shape), within(-6, 2));

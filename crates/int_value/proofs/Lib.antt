@@ -1,5 +1,9 @@
-pub mod Checked
 pub mod Cover
 pub mod Reduction
 pub mod Thresholds
+pub mod Typed
+pub mod Included
+pub mod Members
 pub mod Widened
+pub mod Checked
+pub mod Decides

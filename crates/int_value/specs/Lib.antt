@@ -1,4 +1,8 @@
 pub mod Checks
+pub mod Covers
+pub mod Decides
 pub mod Laws
 pub mod Rows
+pub mod Standing
+pub mod Typed
 pub mod Widening

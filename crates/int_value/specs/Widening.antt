@@ -39,5 +39,5 @@ widen_range turn thresholds shape (Within a b) (Within c d) = intervals.cut (gro
 widen_range turn thresholds shape (Within a b) All = All
 widen_range turn thresholds shape All next = All
 
-abbrev pub widen_row : ℕ → List ℤ → Shape → Value → Value → Value
+unfoldable pub widen_row : ℕ → List ℤ → Shape → Value → Value → Value
 widen_row turn thresholds shape old next = answer_of (widen_range turn thresholds shape old.range next.range) (joined_congr old next) (old.unset || next.unset)

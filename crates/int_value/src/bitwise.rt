@@ -1,8 +1,7 @@
 //! `~ & | ^`, which have no check.
 
 ghost use Rattle.std.specs.Prelude.{◌≡◌, None};
-ghost use Rattle.int_value.specs.Checks.{made_of};
-ghost use Rattle.int_value.specs.Rows.{and_raw, not_raw, or_raw, xor_raw};
+ghost use Rattle.int_value.specs.Checks.{bit_and_row, bit_or_row, bit_xor_row, invert_row, made_of};
 
 use crate::made::Made;
 use crate::value::{Value, answer};
@@ -10,15 +9,17 @@ use int_interval::Shape;
 
 impl Value {
     /// `~`.
+    #[tactic(auto, unfolding(crate::specs::Checks::invert_row, crate::specs::Rows::not_raw))]
     pub fn invert(&self, shape: &Shape, overflow: bool) -> Made
-        ensures { result ≡ made_of (not_raw shape.now self.now) None None }
+        ensures { result ≡ invert_row shape.now overflow self.now }
     {
         unchecked(answer(self.range.invert(shape), self.congr.invert(shape), false))
     }
 
     /// `&`.
+    #[tactic(auto, unfolding(crate::specs::Checks::bit_and_row, crate::specs::Rows::and_raw))]
     pub fn and(&self, other: &Value, shape: &Shape, overflow: bool) -> Made
-        ensures { result ≡ made_of (and_raw shape.now self.now other.now) None None }
+        ensures { result ≡ bit_and_row shape.now overflow self.now other.now }
     {
         unchecked(answer(
             self.range.and(&other.range, shape),
@@ -28,8 +29,9 @@ impl Value {
     }
 
     /// `|`.
+    #[tactic(auto, unfolding(crate::specs::Checks::bit_or_row, crate::specs::Rows::or_raw))]
     pub fn or(&self, other: &Value, shape: &Shape, overflow: bool) -> Made
-        ensures { result ≡ made_of (or_raw shape.now self.now other.now) None None }
+        ensures { result ≡ bit_or_row shape.now overflow self.now other.now }
     {
         unchecked(answer(
             self.range.or(&other.range, shape),
@@ -39,8 +41,9 @@ impl Value {
     }
 
     /// `^`.
+    #[tactic(auto, unfolding(crate::specs::Checks::bit_xor_row, crate::specs::Rows::xor_raw))]
     pub fn xor(&self, other: &Value, shape: &Shape, overflow: bool) -> Made
-        ensures { result ≡ made_of (xor_raw shape.now self.now other.now) None None }
+        ensures { result ≡ bit_xor_row shape.now overflow self.now other.now }
     {
         unchecked(answer(
             self.range.xor(&other.range, shape),

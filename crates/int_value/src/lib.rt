@@ -14,8 +14,10 @@ mod value;
 mod widen;
 
 pub use laws::{
-    arithmetic_covers, bits_cover, conversions_cover, division_covers, relations_are_true,
-    set_laws, shifts_cover, widen_is_upper,
+    conversions_cover, division_covers, marks_decide, membership, operators_are_closed,
+    operators_cover, relations_are_true, second_marks_decide, set_laws, terms_are_reduced,
+    terms_cover, typed_values_are_closed, unary_operators_cover, whole_type_includes,
+    widen_is_upper,
 };
 pub use made::Made;
 pub use value::Value;

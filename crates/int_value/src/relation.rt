@@ -2,14 +2,15 @@
 
 ghost use Rattle.std.specs.Prelude.{◌≡◌, ◌&&◌, ◌||◌, int_lt};
 ghost use Rattle.int_interval.specs.Rows.{are_one, is_one};
-ghost use Rattle.int_value.specs.Checks.{equal_row, equal_said, less_eq_said, less_said};
+ghost use Rattle.int_value.specs.Checks.{equal_row, equal_said, less_eq_said, less_said, within_said};
 
-use crate::arithmetic::said;
+use crate::arithmetic::{said, said_within};
 use crate::value::Value;
-use int_interval::{Interval, Said};
+use int_interval::{Interval, Said, are_one, is_one};
 
 impl Value {
     /// `<`, by the ends.
+    #[tactic(auto, unfolding(crate::specs::Checks::less_said))]
     pub fn less(&self, other: &Value) -> Said
         ensures { result ≡ less_said self.now.range other.now.range }
     {
@@ -24,6 +25,7 @@ impl Value {
     }
 
     /// `<=`, by the ends.
+    #[tactic(auto, unfolding(crate::specs::Checks::less_eq_said))]
     pub fn less_eq(&self, other: &Value) -> Said
         ensures { result ≡ less_eq_said self.now.range other.now.range }
     {
@@ -38,10 +40,18 @@ impl Value {
     }
 
     /// `==`: yes for equal single numbers, no for disjoint intervals or congruences.
+    #[tactic(auto, unfolding(crate::specs::Checks::equal_row))]
     pub fn equal(&self, other: &Value) -> Said
         ensures { result ≡ equal_row self.now other.now }
     {
         said_of_equality(self.range, other.range, !self.congr.meets(&other.congr))
+    }
+
+    /// Whether all, none or some of the numbers are from `lo` to `hi`: the check of an index asks it.
+    pub fn within(&self, lo: i128, hi: i128) -> Said
+        ensures { result ≡ within_said lo hi self.now.range }
+    {
+        said_within(lo, hi, &self.range)
     }
 }
 
@@ -61,19 +71,7 @@ fn said_of_equality(left: Interval, right: Interval, apart: bool) -> Said
 fn are_equal(a: i128, b: i128, c: i128, d: i128) -> bool
     ensures { result ≡ (are_one a b c d && is_one a c) }
 {
-    both_single(a, b, c, d) && is_same(a, c)
-}
-
-fn is_same(left: i128, right: i128) -> bool
-    ensures { result ≡ is_one left right }
-{
-    left == right
-}
-
-fn both_single(a: i128, b: i128, c: i128, d: i128) -> bool
-    ensures { result ≡ are_one a b c d }
-{
-    a == b && c == d
+    are_one(a, b, c, d) && is_one(a, c)
 }
 
 /// Whether the intervals are disjoint, or else `apart`.

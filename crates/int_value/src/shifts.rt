@@ -16,16 +16,18 @@ ghost use Rattle.int_value.specs.Checks.{
   shr_row,
   starts_at,
 };
-ghost use Rattle.int_value.specs.Rows.{is_empty, shl_raw, shr_raw};
+ghost use Rattle.int_interval.specs.Rows.{is_empty};
+ghost use Rattle.int_value.specs.Rows.{shl_raw, shr_raw};
 
 use crate::arithmetic::{checks_overflow, said, said_within};
 use crate::convert::range_of_type;
 use crate::made::Made;
-use crate::value::{Value, answer, is_without};
+use crate::value::{Value, answer};
 use int_interval::{Interval, Said, Shape};
 
 impl Value {
     /// `<<` with the checks shift and signed_overflow.
+    #[tactic(auto, unfolding(crate::specs::Checks::shl_row))]
     pub fn shl(&self, other: &Value, shape: &Shape, overflow: bool) -> Made
         requires { IsShape shape.now }
         ensures { result ≡ shl_row shape.now overflow self.now other.now }
@@ -37,9 +39,10 @@ impl Value {
     }
 
     /// `>>` with the check shift.
+    #[tactic(auto, unfolding(crate::specs::Checks::shr_row))]
     pub fn shr(&self, other: &Value, shape: &Shape, overflow: bool) -> Made
         requires { IsShape shape.now }
-        ensures { result ≡ shr_row shape.now self.now other.now }
+        ensures { result ≡ shr_row shape.now overflow self.now other.now }
     {
         let by = shift(other, shape);
         Made {
@@ -49,6 +52,7 @@ impl Value {
         }
     }
 
+    #[tactic(auto, unfolding(crate::specs::Rows::shl_raw))]
     fn shifted_left(&self, by: &Value, shape: &Shape) -> Value
         requires shape { IsShape shape.now }
         requires range { IsShift shape.now by.now.range }
@@ -81,6 +85,7 @@ impl Value {
         }
     }
 
+    #[tactic(auto, unfolding(crate::specs::Rows::shr_raw))]
     fn shifted_right(&self, by: &Value, shape: &Shape) -> Value
         requires shape { IsShape shape.now }
         requires range { IsShift shape.now by.now.range }
@@ -136,7 +141,7 @@ fn said_of_shift(left: &Value, right: &Value, shape: &Shape) -> Said
     requires { IsShape shape.now }
     ensures { result ≡ shift_said shape.now left.now right.now }
 {
-    if is_without(&left.range) {
+    if left.range.is_empty() {
         Said::Unreached
     } else {
         said_within(0, i128::from(shape.width) - 1, &right.range)
@@ -188,7 +193,7 @@ fn said_of_product(left: &Value, whole: Value, part: Value, shape: &Shape) -> Sa
 fn unless_empty(range: &Interval, said: Said) -> Said
     ensures { result ≡ (if is_empty range.now then Said.Unreached else said) }
 {
-    if is_without(range) {
+    if range.is_empty() {
         Said::Unreached
     } else {
         said

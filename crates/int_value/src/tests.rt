@@ -52,7 +52,7 @@ fn unsigned_64() -> Shape
     }
 }
 
-fn within(lo: i128, hi: i128) -> Value {
+fn from_to(lo: i128, hi: i128) -> Value {
     Value {
         range: Interval::Within { lo, hi },
         congr: Congr { rem: 0, modulus: 1 },
@@ -85,12 +85,12 @@ fn worked_values(rt: HostRuntime) {
         congr: Congr { rem: 0, modulus: 2 },
         unset: false,
     };
-    let made = even.mul(&within(3, 3), &shape, true);
+    let made = even.mul(&from_to(3, 3), &shape, true);
     assert_eq!(rt; made.value.range, Interval::Within { lo: 0, hi: 30 });
     assert_eq!(rt; made.value.congr, Congr { rem: 0, modulus: 6 });
     assert_eq!(rt; made.first, Some(Said::Yes));
-    let rest = within(-5, 7).rem(&within(0, 3), &shape, true);
-    assert_eq!(rt; rest.value, within(-2, 2));
+    let rest = from_to(-5, 7).rem(&from_to(0, 3), &shape, true);
+    assert_eq!(rt; rest.value, from_to(-2, 2));
     assert_eq!(rt; rest.first, Some(Said::Maybe));
     assert_eq!(rt; rest.second, Some(Said::Yes));
 }
@@ -98,8 +98,8 @@ fn worked_values(rt: HostRuntime) {
 #[test]
 fn ends_of_the_types(rt: HostRuntime) {
     let (shape, wide) = (signed_64(), unsigned_64());
-    let least = within(shape.lo, shape.lo);
-    let minus_one = within(-1, -1);
+    let least = from_to(shape.lo, shape.lo);
+    let minus_one = from_to(-1, -1);
     let made = least.div(&minus_one, &shape, true);
     assert_eq!(rt;
         made,
@@ -111,19 +111,19 @@ fn ends_of_the_types(rt: HostRuntime) {
     );
     assert_eq!(rt; least.div(&minus_one, &shape, false).value, least);
     assert_eq!(rt; least.rem(&minus_one, &shape, true).value, none());
-    assert_eq!(rt; least.rem(&minus_one, &shape, false).value, within(0, 0));
-    let top = within(0, wide.hi);
+    assert_eq!(rt; least.rem(&minus_one, &shape, false).value, from_to(0, 0));
+    let top = from_to(0, wide.hi);
     assert_eq!(rt; top.mul(&top, &wide, true).value, top);
     assert_eq!(rt;
-        within(1, 1).shl(&within(63, 63), &shape, true).second,
+        from_to(1, 1).shl(&from_to(63, 63), &shape, true).second,
         Some(Said::No)
     );
     assert_eq!(rt;
-        within(1, 1).shl(&within(63, 63), &wide, true).value,
-        within(0x8000_0000_0000_0000, 0x8000_0000_0000_0000)
+        from_to(1, 1).shl(&from_to(63, 63), &wide, true).value,
+        from_to(0x8000_0000_0000_0000, 0x8000_0000_0000_0000)
     );
     assert_eq!(rt;
-        within(1, 1).shl(&within(64, 70), &wide, true),
+        from_to(1, 1).shl(&from_to(64, 70), &wide, true),
         Made {
             value: none(),
             first: Some(Said::No),
@@ -131,11 +131,11 @@ fn ends_of_the_types(rt: HostRuntime) {
         }
     );
     assert_eq!(rt;
-        within(1, 1).shr(&within(64, 70), &wide, true).first,
+        from_to(1, 1).shr(&from_to(64, 70), &wide, true).first,
         Some(Said::No)
     );
     assert_eq!(rt;
-        within(-1, 300).convert(&unsigned_64()).range,
+        from_to(-1, 300).convert(&unsigned_64()).range,
         Interval::Within { lo: 0, hi: wide.hi }
     );
 }
@@ -162,7 +162,7 @@ fn ends_of_the_numbers(rt: HostRuntime) {
         }
     );
     assert_eq!(rt;
-        widest.join(&within(0, 1)),
+        widest.join(&from_to(0, 1)),
         Value {
             range: Interval::All,
             congr: Congr { rem: 0, modulus: 1 },
@@ -170,22 +170,22 @@ fn ends_of_the_numbers(rt: HostRuntime) {
         }
     );
     assert_eq!(rt;
-        within(bound, bound).join(&within(0, 0)).range,
+        from_to(bound, bound).join(&from_to(0, 0)).range,
         Interval::Within { lo: 0, hi: bound }
     );
     assert_eq!(rt;
-        within(0, bound + 1).join(&within(0, 0)).range,
+        from_to(0, bound + 1).join(&from_to(0, 0)).range,
         Interval::All
     );
     assert_eq!(rt;
         all().meet(&Interval::Within { lo: 1, hi: 2 }),
-        within(1, 2)
+        from_to(1, 2)
     );
-    assert_eq!(rt; all().convert(&shape), within(shape.lo, shape.hi));
+    assert_eq!(rt; all().convert(&shape), from_to(shape.lo, shape.hi));
     assert!(rt;
-        none().included(&within(0, 0))
-            && within(0, 0).included(&all())
-            && !all().included(&within(0, 0))
+        none().included(&from_to(0, 0))
+            && from_to(0, 0).included(&all())
+            && !all().included(&from_to(0, 0))
     );
     assert_eq!(rt; all().equal(&all()), Said::Maybe);
     assert_eq!(rt; none().less(&all()), Said::Unreached);
@@ -206,7 +206,7 @@ fn ends_of_the_numbers(rt: HostRuntime) {
 #[test]
 fn empty_and_all_operands(rt: HostRuntime) {
     let shape = signed_64();
-    let one = within(1, 1);
+    let one = from_to(1, 1);
     for (left, right) in [
         (none(), one),
         (one, none()),
@@ -227,7 +227,7 @@ fn empty_and_all_operands(rt: HostRuntime) {
             assert_eq!(rt; one_made.first, Some(Said::Unreached));
         }
     }
-    let range = within(shape.lo, shape.hi);
+    let range = from_to(shape.lo, shape.hi);
     for made in [
         all().neg(&shape, true),
         all().add(&one, &shape, true),
@@ -243,40 +243,85 @@ fn empty_and_all_operands(rt: HostRuntime) {
         );
     }
     assert_eq!(rt;
-        all().div(&within(0, 0), &shape, true).first,
+        all().div(&from_to(0, 0), &shape, true).first,
         Some(Said::No)
     );
     assert_eq!(rt; all().and(&one, &shape, true).value, all());
     assert_eq!(rt; all().invert(&shape, true).value, all());
-    assert_eq!(rt; one.or(&within(2, 6), &shape, true).value, within(2, 7));
-    assert_eq!(rt; one.xor(&within(2, 6), &shape, true).value, within(0, 7));
+    assert_eq!(rt; one.or(&from_to(2, 6), &shape, true).value, from_to(2, 7));
+    assert_eq!(rt; one.xor(&from_to(2, 6), &shape, true).value, from_to(0, 7));
+}
+
+#[test]
+fn terms_without_a_type(rt: HostRuntime) {
+    let bound = 0x4000_0000_0000_0000_0000_0000_0000_0000i128;
+    assert_eq!(rt; Value::number(bound), from_to(bound, bound));
+    assert_eq!(rt; Value::number(-bound), from_to(-bound, -bound));
+    assert_eq!(rt; Value::number(bound + 1), all());
+    assert_eq!(rt; Value::number(i128::MIN), all());
+    let (seven, two) = (Value::number(7), Value::number(-2));
+    assert_eq!(rt; seven.negation().single(), Some(-7));
+    assert_eq!(rt; seven.sum(&two).single(), Some(5));
+    assert_eq!(rt; seven.difference(&two).single(), Some(9));
+    assert_eq!(rt; seven.product(&two).single(), Some(-14));
+    assert_eq!(rt; seven.quotient(&two).single(), Some(-3));
+    assert_eq!(rt; seven.remainder(&two).single(), Some(1));
+    assert_eq!(rt; seven.quotient(&Value::number(0)), none());
+    assert_eq!(rt; Value::number(bound).sum(&seven), all());
+    assert_eq!(rt; from_to(0, 3).within(0, 3), Said::Yes);
+    assert_eq!(rt; from_to(0, 4).within(0, 3), Said::Maybe);
+    assert_eq!(rt; from_to(4, 9).within(0, 3), Said::No);
+    assert_eq!(rt; all().single(), None);
+    assert!(rt; none().is_empty() && !all().is_empty());
+    assert_eq!(rt; none().within(0, 3), Said::Unreached);
+    assert_eq!(rt;
+        from_to(300, 400)
+            .rem(&from_to(500, 500), &signed_small(), true)
+            .value,
+        from_to(0, 3)
+    );
 }
 
 #[test]
 fn widening(rt: HostRuntime) {
     let shape = signed_64();
     let thresholds = [-1, 0, 1, 9, 10, 11];
-    let old = within(0, 1);
+    let old = from_to(0, 1);
     assert_eq!(rt;
-        old.widen(&within(0, 2), 4, &thresholds, &shape),
-        within(0, 9)
+        old.widen(&from_to(0, 2), 4, &thresholds, &shape),
+        from_to(0, 9)
     );
     assert_eq!(rt;
-        old.widen(&within(-2, 1), 8, &thresholds, &shape),
-        within(shape.lo, 1)
+        old.widen(&from_to(-2, 1), 8, &thresholds, &shape),
+        from_to(shape.lo, 1)
     );
     assert_eq!(rt;
-        old.widen(&within(0, 2), 9, &thresholds, &shape),
-        within(0, shape.hi)
+        old.widen(&from_to(0, 2), 9, &thresholds, &shape),
+        from_to(0, shape.hi)
     );
     assert_eq!(rt;
-        old.widen(&within(0, 12), 5, &thresholds, &shape),
-        within(0, shape.hi)
+        old.widen(&from_to(0, 12), 5, &thresholds, &shape),
+        from_to(0, shape.hi)
     );
     assert_eq!(rt;
-        none().widen(&within(2, 8), 5, &thresholds, &shape),
-        within(1, 9)
+        none().widen(&from_to(2, 8), 5, &thresholds, &shape),
+        from_to(1, 9)
     );
+    membership();
+    set_laws();
+    widen_is_upper();
+    conversions_cover();
+    terms_cover();
+    terms_are_reduced();
+    operators_cover();
+    division_covers();
+    unary_operators_cover();
+    typed_values_are_closed();
+    operators_are_closed();
+    whole_type_includes();
+    relations_are_true();
+    marks_decide();
+    second_marks_decide();
 }
 
 /// Whether what is said is true of a fact.
@@ -410,6 +455,88 @@ fn sets_stand(a: &Value, b: &Value, x: i128, other: &Shape) -> bool
             || stands(&a.convert(other), Some(x), None, other) && has(&a.to_bool(), to_bool(x)))
 }
 
+/// `- + * / %` of whole numbers without bound.
+fn terms_stand(a: &Value, b: &Value, x: i128, y: i128) -> bool {
+    has_exact(&a.negation(), negative(x))
+        && has_exact(&a.sum(b), sum(x, y))
+        && has_exact(&a.difference(b), difference(x, y))
+        && has_exact(&a.product(b), product(x, y))
+        && (y == 0
+            || has_exact(&a.quotient(b), quotient(x, y)) && has(&a.remainder(b), remainder(x, y)))
+}
+
+fn has_exact(value: &Value, exact: Option<i128>) -> bool {
+    match exact {
+        Some(exact) => has(value, exact),
+        None => false,
+    }
+}
+
+/// Whether the value is one of the type's, reduced and set: reduction leaves it, and its numbers are of the type.
+fn is_of_type(value: &Value, shape: &Shape) -> bool {
+    let lies = match value.range {
+        Interval::Empty => true,
+        Interval::Within { lo, hi } => shape.lo <= lo && lo <= hi && hi <= shape.hi,
+        Interval::All => false,
+    };
+    lies && value.reduce() == *value && value.included(&Value::whole(shape, true))
+}
+
+/// Whether each operation on two values of the type gives one.
+fn are_closed(a: &Value, b: &Value, shape: &Shape, other: &Shape, overflow: bool) -> bool
+    requires shape { IsShape shape.now }
+    requires other { IsShape other.now }
+{
+    let made = [
+        a.neg(shape, overflow),
+        a.invert(shape, overflow),
+        a.add(b, shape, overflow),
+        a.sub(b, shape, overflow),
+        a.mul(b, shape, overflow),
+        a.div(b, shape, overflow),
+        a.rem(b, shape, overflow),
+        a.shl(b, shape, overflow),
+        a.shr(b, shape, overflow),
+        a.and(b, shape, overflow),
+        a.or(b, shape, overflow),
+        a.xor(b, shape, overflow),
+    ];
+    for one in made {
+        if !is_of_type(&one.value, shape) || one.value.unset {
+            return false;
+        }
+    }
+    let widened = a.widen(b, 4, &[-1, 0, 1], shape);
+    is_of_type(&a.join(b), shape)
+        && is_of_type(&a.meet(&b.range), shape)
+        && is_of_type(&widened, shape)
+        && is_of_type(&a.convert(other), other)
+        && a.included(&a.join(b))
+        && a.included(&widened)
+}
+
+/// Whether what the value says of its numbers is so: none, just one, and which of them are from -1 to 1.
+fn counts_stand(value: &Value) -> bool {
+    let mut count: u32 = 0;
+    let mut last = None;
+    let mut inside: u32 = 0;
+    for i in 0..12u32 {
+        let x = nth(i);
+        if has(value, x) {
+            count = count.saturating_add(1);
+            last = Some(x);
+            if -1 <= x && x <= 1 {
+                inside = inside.saturating_add(1);
+            }
+        }
+    }
+    let single = if count == 1 { last } else { None };
+    value.is_empty() == (count == 0)
+        && value.single() == single
+        && (value.within(-1, 1) == Said::Yes) == (count > 0 && inside == count)
+        && (value.within(-1, 1) != Said::No || inside == 0)
+}
+
 /// A 3-bit type.
 fn small_shape(signed: bool) -> Shape
     ensures { IsShape result }
@@ -429,6 +556,9 @@ fn nth(index: u32) -> i128 {
 /// All operators on two values of the type, for each pair of their numbers.
 fn pair_stands(a: &Value, b: &Value, signed: bool, overflow: bool) -> bool {
     let (shape, other) = (small_shape(signed), small_shape(!signed));
+    if !are_closed(a, b, &shape, &other, overflow) || !counts_stand(a) {
+        return false;
+    }
     for i in 0..12u32 {
         let x = nth(i);
         if !sets_stand(a, b, x, &other) {
@@ -451,13 +581,25 @@ fn operators_stand(a: &Value, b: &Value, x: i128, y: i128, shape: &Shape, overfl
         && division_stands(a, b, x, y, shape, overflow)
         && shifts_stand(a, b, x, y, shape, overflow)
         && bits_stand(a, b, x, y, shape, overflow)
+        && terms_stand(a, b, x, y)
+}
+
+/// Whether each of the values that includes both includes their join.
+fn is_least_join(a: &Value, b: &Value, values: &[Value]) -> bool {
+    let joined = a.join(b);
+    for c in values {
+        if a.included(c) && b.included(c) && !joined.included(c) {
+            return false;
+        }
+    }
+    true
 }
 
 /// The first pair of these values on which an operator is wrong.
 fn first_wrong(values: &[Value], signed: bool, overflow: bool) -> Option<(Value, Value)> {
     for a in values {
         for b in values {
-            if !pair_stands(a, b, signed, overflow) {
+            if !pair_stands(a, b, signed, overflow) || !is_least_join(a, b, values) {
                 return Some((*a, *b));
             }
         }

@@ -20,6 +20,7 @@ use int_interval::{Interval, Shape};
 impl Value {
     /// The widening of this value by the next. Each bound that grew goes, in turns up to 8, to the next threshold of
     /// the list or of the type's ends, and then to the type's end. Where this value has no number, both bounds do.
+    #[tactic(auto, unfolding(crate::specs::Widening::widen_row))]
     pub fn widen(&self, next: &Value, turn: u32, thresholds: &[i128], shape: &Shape) -> Value
         ensures { result ≡ widen_row turn thresholds.now shape.now self.now next.now }
     {

@@ -7,6 +7,7 @@ use Rattle.std.proofs.lemmas.Bool.{le-leb, leb-true, cases_lt}
 use lib.Count.{count_leading_zeros}
 use lib.Pow.{pow_mono}
 use Rattle.machine_ints.specs.Bits.{not_of, and_of, or_of, xor_of, length_of}
+use Rattle.machine_ints.specs.Divisors.{greatest}
 use Rattle.machine_ints.proofs.Greatest.{IsLast, greatest_last, last_same}
 
 -- ---- at 127 bits, for the operators' bodies
@@ -55,6 +56,15 @@ below_length n = ⊎_elim
     (λ (h : n < 2 ^ 128). let (m, sum, below, near) = leading_length 128 n h in inl (rw (← length_is n m (omega arith) below near) below))
     (λ (h : 2 ^ 128 ≤ n). inr (full n h))
     (cases_lt n (2 ^ 128))
+
+-- the length of what is below 2^k is at most k
+pub length_least : (n k : ℕ) → n < 2 ^ k → length_of n ≤ k
+unfolding length_of
+length_least n k h = ⊎_elim (λ none. omega arith) (λ p. ⊎_elim (λ (q : k < l). absurd (omega (arith, leb-true _ _ p, pow_mono {i = k} {j = l - 1} (omega arith)))) (λ (q : l ≤ k). q) (cases_lt k l))
+    (greatest_last (λ k. nat_le (2 ^ (k - 1)) n) 128).1
+  where
+    l : ℕ
+    l = greatest (λ k. nat_le (2 ^ (k - 1)) n) 128
 
 -- ---- numbers that are not negative
 

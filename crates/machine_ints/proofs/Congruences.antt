@@ -15,9 +15,6 @@ multiple_add m x y (j, e) (k, f) = (j +ℤ k, omega (arith, ints, e, f, distrib 
 pub multiple_sub : (m x y : ℤ) → IsMultiple m x → IsMultiple m y → IsMultiple m (x -ℤ y)
 multiple_sub m x y (j, e) (k, f) = (j -ℤ k, omega (arith, ints, e, f, distrib-sub j k m))
 
-pub multiple_mul : (m x y : ℤ) → IsMultiple m x → IsMultiple m (y *ℤ x)
-multiple_mul m x y (k, e) = (y *ℤ k, ap (λ z. y *ℤ z) e ∙ sym (assoc y k m))
-
 pub multiple_trans : (g m z : ℤ) → IsMultiple g m → IsMultiple m z → IsMultiple g z
 multiple_trans g m z (j, e) (k, f) = (k *ℤ j, f ∙ ap (λ y. k *ℤ y) e ∙ sym (assoc k j g))
 

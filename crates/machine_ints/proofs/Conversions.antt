@@ -49,6 +49,8 @@ range_of_type lo hi width (h, k, kind) =
     let q = pow_64 width k in
     let r = pow_pos (width - 1) in
     ⊎_elim
-    (λ (u : (lo ≡ pos 0) × (hi ≡ pos (2 ^ width - 1))). let a = u.0 in let b = u.1 in record { span = omega (arith, ints); low = omega (arith, ints); high = omega (arith, ints); least = omega (arith, ints); greatest = omega (arith, ints) })
-    (λ (s : (lo ≡ neg_ℤ (pos (2 ^ (width - 1)))) × (hi ≡ pos (2 ^ (width - 1) - 1))). let a = s.0 in let b = s.1 in record { span = omega (arith, ints); low = omega (arith, ints); high = omega (arith, ints); least = omega (arith, ints); greatest = omega (arith, ints) })
+    (λ (u : (lo ≡ pos 0) × (hi ≡ pos (2 ^ width - 1))). let a = u.0 in let b = u.1 in
+    record { span = omega (arith, ints); low = omega (arith, ints); high = omega (arith, ints); least = omega (arith, ints); greatest = omega (arith, ints) })
+    (λ (s : (lo ≡ neg_ℤ (pos (2 ^ (width - 1)))) × (hi ≡ pos (2 ^ (width - 1) - 1))). let a = s.0 in let b = s.1 in
+    record { span = omega (arith, ints); low = omega (arith, ints); high = omega (arith, ints); least = omega (arith, ints); greatest = omega (arith, ints) })
     kind

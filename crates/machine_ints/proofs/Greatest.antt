@@ -13,7 +13,12 @@ greatest_last test (suc n) = chosen (greatest test n) (greatest_last test n) (te
   where
     chosen : (g : ℕ) → IsLast test n g → (b : Bool) → test (suc n) ≡ b → IsLast test (suc n) (cond b (suc n) g)
     chosen g last true e = (omega arith, inr e, λ d h _. h)
-    chosen g (in_n, passes, above) false e = (omega arith, passes, λ d h p. ⊎_elim (λ (q : d < suc n). above d (omega arith) p) (λ (q : suc n ≤ d). let same : d ≡ suc n = omega arith in absurd (false≢true (sym e ∙ subst (λ x. test x ≡ true) same p))) (cases_lt d (suc n)))
+    chosen g (in_n, passes, above) false e = (
+      omega arith,
+      passes,
+      λ d h p. ⊎_elim (λ (q : d < suc n). above d (omega arith) p)
+          (λ (q : suc n ≤ d). let same : d ≡ suc n = omega arith in absurd (false≢true (sym e ∙ subst (λ x. test x ≡ true) same p))) (cases_lt d (suc n)),
+    )
 
 pub last_same : (test : ℕ → Bool) (n g k : ℕ) → IsLast test n g → IsLast test n k → g ≤ k
 last_same test n g k (in_n, here, above) last = ⊎_elim (λ none. omega arith) (λ p. last.2 g in_n p) here

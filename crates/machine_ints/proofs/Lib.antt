@@ -8,3 +8,6 @@ pub mod Congruences
 pub mod Conversions
 pub mod Corners
 pub mod Quotients
+pub mod Choices
+pub mod ByEnds
+pub mod Results

@@ -8,7 +8,20 @@ pub distrib : (a b c : ℤ) → (a +ℤ b) *ℤ c ≡ a *ℤ c +ℤ b *ℤ c
 distrib a b c = omega (arith, ints, ap (λ (n : ℕ). n * up c) (sum_is_lem a b), ap (λ (n : ℕ). n * down c) (sum_is_lem a b))
 
 pub assoc : (a b c : ℤ) → (a *ℤ b) *ℤ c ≡ a *ℤ (b *ℤ c)
-assoc a b c = omega (arith, ints, product_is a b, product_is b c, ap (λ (n : ℕ). n * up c) ((product_is a b).0), ap (λ (n : ℕ). n * down c) ((product_is a b).0), ap (λ (n : ℕ). n * up c) ((product_is a b).1), ap (λ (n : ℕ). n * down c) ((product_is a b).1), ap (λ (n : ℕ). up a * n) ((product_is b c).0), ap (λ (n : ℕ). down a * n) ((product_is b c).0), ap (λ (n : ℕ). up a * n) ((product_is b c).1), ap (λ (n : ℕ). down a * n) ((product_is b c).1))
+assoc a b c = omega (
+  arith,
+  ints,
+  product_is a b,
+  product_is b c,
+  ap (λ (n : ℕ). n * up c) ((product_is a b).0),
+  ap (λ (n : ℕ). n * down c) ((product_is a b).0),
+  ap (λ (n : ℕ). n * up c) ((product_is a b).1),
+  ap (λ (n : ℕ). n * down c) ((product_is a b).1),
+  ap (λ (n : ℕ). up a * n) ((product_is b c).0),
+  ap (λ (n : ℕ). down a * n) ((product_is b c).0),
+  ap (λ (n : ℕ). up a * n) ((product_is b c).1),
+  ap (λ (n : ℕ). down a * n) ((product_is b c).1),
+)
 
 scaled : (a b : ℤ) (k : ℕ) → up a + down b ≤ up b + down a → up a * k + down b * k ≤ up b * k + down a * k
 scaled a b k h = omega (arith, mul-le (up a + down b) k (up b + down a) k h (omega arith))

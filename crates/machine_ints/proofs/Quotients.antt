@@ -33,9 +33,6 @@ quot-neg : (x : ℤ) (n : ℕ) → int_div x (negsuc n) ≡ neg_ℤ (int_div x (
 quot-neg (pos a) n = refl
 quot-neg (negsuc a) n = sym (neg_ℤ-neg_ℤ (pos (suc a / suc n)))
 
-flipped : (p q z : ℤ) → Spanned p q z → Spanned (neg_ℤ q) (neg_ℤ p) (neg_ℤ z)
-flipped p q z s = record { low = omega (arith, ints, clamps, s.low, s.high); high = omega (arith, ints, clamps, s.low, s.high) }
-
 -- the divisors from c to d are not 0
 quot_cornered : (a b x : ℤ) (c d n : ℕ) → a ≤ℤ x → x ≤ℤ b → 0 < c → c ≤ n → n ≤ d → Cornered (int_div a (pos c)) (int_div a (pos d)) (int_div b (pos c)) (int_div b (pos d)) (int_div x (pos n))
 quot_cornered a b x c d n h k p f g = cornered _ _ _ _ _ _ _ (rising _ _ _ (quot_le a x n h) (quot_le x b n k)) (quot_span a c d n p f g) (quot_span b c d n p f g)
@@ -59,7 +56,8 @@ pub quotient_within : (x y : ℤ) (h : ℕ) → 0 < h → y ≢ pos 0 → (x ≡
 quotient_within (pos a) (pos b) h p n m low high = let q = div-le_self a b in (omega (arith, ints), omega (arith, ints))
 quotient_within (pos a) (negsuc b) h p n m low high = let q = div-le_self a (suc b) in (omega (arith, ints), omega (arith, ints))
 quotient_within (negsuc a) (pos b) h p n m low high = let q = div-le_self (suc a) b in (omega (arith, ints), omega (arith, ints))
-quotient_within (negsuc a) (negsuc zero) h p n m low high = let q : suc a / 1 ≤ suc a = div-le_self (suc a) 1 in let apart : suc a ≢ h = λ e. m (omega (arith, ints)) refl in (omega (arith, ints), omega (arith, ints))
+quotient_within (negsuc a) (negsuc zero) h p n m low high = let q : suc a / 1 ≤ suc a = div-le_self (suc a) 1 in let apart : suc a ≢ h = λ e. m (omega (arith, ints)) refl in
+    (omega (arith, ints), omega (arith, ints))
 quotient_within (negsuc a) (negsuc (suc b)) h p n m low high = let q : suc a / suc (suc b) < suc a = div-lt_self (omega arith) (omega arith) in (omega (arith, ints), omega (arith, ints))
 
 -- ---- floors
@@ -91,4 +89,5 @@ rem_above (negsuc a) y m n h k = absurd (omega (arith, ints))
 
 pub rem_below_zero : (x y : ℤ) (m : ℕ) → y ≢ pos 0 → unsigned_abs y ≤ suc m → x ≤ℤ pos 0 → (int_rem x y ≤ℤ pos 0) × (x ≤ℤ int_rem x y) × (neg_ℤ (pos m) ≤ℤ int_rem x y)
 rem_below_zero (pos a) y m n h k = let low : a % unsigned_abs y ≤ a = mod-le a (unsigned_abs y) in (omega (arith, ints), omega (arith, ints), omega (arith, ints))
-rem_below_zero (negsuc a) y m n h _ = let below : suc a % unsigned_abs y < unsigned_abs y = mod_below (suc a) (unsigned_abs y) (apart y n) in (omega (arith, ints), omega (arith, ints), omega (arith, ints))
+rem_below_zero (negsuc a) y m n h _ = let below : suc a % unsigned_abs y < unsigned_abs y = mod_below (suc a) (unsigned_abs y) (apart y n) in
+    (omega (arith, ints), omega (arith, ints), omega (arith, ints))

@@ -2,6 +2,8 @@ pub mod Bits
 pub mod Bound
 pub mod Convert
 pub mod Corners
+pub mod Decided
 pub mod Divisors
-pub mod Halves
 pub mod Operators
+pub mod Results
+pub mod inner

@@ -2,7 +2,7 @@
 
 ghost use Rattle.std.specs.Prelude.{◌≡◌, ◌^◌, ◌<◌, ◌≤◌, pos, negsuc};
 ghost use Rattle.machine_ints.specs.Bits.{and_of, length_of, not_of, or_of, xor_of};
-ghost use Rattle.machine_ints.specs.Halves.{value_of, IsShort};
+ghost use Rattle.machine_ints.specs.inner.Halves.{value_of, IsShort};
 
 /// A number by its sign bit, with its other bits; where the sign bit is set, with their complement.
 #[derive(Clone, Copy)]

@@ -4,8 +4,8 @@ ghost use Rattle.std.specs.Prelude.{◌≡◌, ◌≢◌, ◌^◌, ◌<◌, pos,
 ghost use Rattle.std.specs.Int.{int_shr};
 ghost use Rattle.machine_ints.specs.Bound.{bounded};
 
-/// 2^126.
-const BOUND: u128 = 0x4000_0000_0000_0000_0000_0000_0000_0000;
+/// 2^126, the bound.
+pub const BOUND: u128 = 0x4000_0000_0000_0000_0000_0000_0000_0000;
 
 /// The number, if it is within the bound.
 pub fn within_bound(value: i128) -> Option<i128>
@@ -73,11 +73,11 @@ pub fn power_of_two(by: u32) -> i128
     requires { by < 127 }
     ensures { result ≡ pos (2 ^ by) }
 {
-    unsigned_power(by) as i128
+    unsigned_power_of_two(by) as i128
 }
 
 /// 2^`by`, unsigned.
-pub(crate) fn unsigned_power(by: u32) -> u128
+pub fn unsigned_power_of_two(by: u32) -> u128
     requires { by < 128 }
     ensures { result ≡ 2 ^ by }
 {

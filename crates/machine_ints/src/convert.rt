@@ -3,7 +3,7 @@
 ghost use Rattle.std.specs.Prelude.{◌≡◌, ◌≤◌, ◌^◌, pos, negsuc, neg_ℤ, ◌≤ℤ◌};
 ghost use Rattle.machine_ints.specs.Convert.{bool_of, wrap as wrap_of};
 
-use crate::bounded::unsigned_power;
+use crate::bounded::unsigned_power_of_two;
 use crate::divisors::residue_of_difference;
 
 /// `value` modulo 2^width, from `lo` on. Asks for a width of at most 64, and `lo` from -2^63 to 0.
@@ -13,7 +13,7 @@ pub fn wrap(value: i128, lo: i128, width: u32) -> i128
     requires high { lo ≤ℤ pos 0 }
     ensures { result ≡ wrap_of lo width value }
 {
-    let step = residue_of_difference(value, lo, unsigned_power(width));
+    let step = residue_of_difference(value, lo, unsigned_power_of_two(width));
     lo + step as i128
 }
 

@@ -1,5 +1,9 @@
 //! Worked numbers, taken from C and from arithmetic, not from this crate.
 
+ghost use Rattle.std.specs.Prelude.{◌<◌, ◌^◌};
+ghost use Rattle.machine_ints.specs.Convert.{IsType};
+ghost use Rattle.machine_ints.specs.Decided.{IsOrdered};
+
 use super::*;
 use std::assert_eq;
 
@@ -107,4 +111,165 @@ fn divisors_and_residues(rt: HostRuntime) {
     assert_eq!(rt; differ_by_multiple(10, -2, 5), false);
     assert_eq!(rt; differ_by_multiple(3, 3, 0), true);
     assert_eq!(rt; differ_by_multiple(3, 4, 0), false);
+}
+
+/// The range of a 3-bit type.
+fn small_type(signed: bool) -> Ends
+    ensures { IsType result.lo result.hi 3 }
+{
+    if signed {
+        Ends { lo: -4, hi: 3 }
+    } else {
+        Ends { lo: 0, hi: 7 }
+    }
+}
+
+fn is_among(ends: &Ends, number: Option<i128>) -> bool {
+    number >= Some(ends.lo) && number <= Some(ends.hi)
+}
+
+/// Whether the two numbers pass the check of overflow, in plain arithmetic.
+fn fits(operator: Operator, of_type: &Ends, x: i128, y: i128) -> bool {
+    match operator {
+        Operator::Add => is_among(of_type, sum(x, y)),
+        Operator::Sub => is_among(of_type, difference(x, y)),
+        Operator::Mul => is_among(of_type, product(x, y)),
+        Operator::Div | Operator::Rem => x != of_type.lo || y != -1,
+        Operator::Shl => {
+            let by = y.unsigned_abs().min(9) as u32;
+            0 <= x && shifted_left(x, by) <= Some(of_type.hi)
+        }
+        _ => true,
+    }
+}
+
+fn passes(check: Check, operator: Operator, of_type: &Ends, x: i128, y: i128) -> bool {
+    match check {
+        Check::Division => y != 0,
+        Check::Overflow => fits(operator, of_type, x, y),
+        Check::Shift => 0 <= y && y < 3,
+    }
+}
+
+/// Whether all pairs of numbers of the two ranges pass, one by one.
+fn all_pass(check: Check, operator: Operator, of_type: &Ends, left: &Ends, right: &Ends) -> bool {
+    for i in 0..12u32 {
+        for j in 0..12u32 {
+            let (x, y) = (i128::from(i) - 4, i128::from(j) - 4);
+            if is_among(left, Some(x))
+                && is_among(right, Some(y))
+                && !passes(check, operator, of_type, x, y)
+            {
+                return false;
+            }
+        }
+    }
+    true
+}
+
+const OPERATORS: [Operator; 10] = [
+    Operator::Add,
+    Operator::Sub,
+    Operator::Mul,
+    Operator::Div,
+    Operator::Rem,
+    Operator::Shl,
+    Operator::Shr,
+    Operator::And,
+    Operator::Or,
+    Operator::Xor,
+];
+
+/// Whether the ends of these ranges decide each check of each operator as its pairs do.
+fn are_decided(signed: bool, left: &Ends, right: &Ends) -> bool
+    requires left { IsOrdered left.now }
+    requires right { IsOrdered right.now }
+{
+    let of_type = small_type(signed);
+    for operator in OPERATORS {
+        for check in [Check::Division, Check::Overflow, Check::Shift] {
+            if always_passes(check, operator, &of_type, 3, left, right)
+                != all_pass(check, operator, &of_type, left, right)
+            {
+                return false;
+            }
+        }
+    }
+    true
+}
+
+/// The range of this width from the number on, with -4 as the first.
+fn nth_range(first: u32, width: u32) -> Ends
+    requires { width < 2 ^ 31 }
+    ensures { IsOrdered result }
+{
+    let lo = i128::from(first) - 4;
+    Ends {
+        lo,
+        hi: lo + i128::from(width),
+    }
+}
+
+/// How many pairs of ranges of the type's numbers there are on which a check is decided wrongly.
+fn wrongly_decided(signed: bool) -> u32 {
+    let mut count: u32 = 0;
+    let of_type = small_type(signed);
+    for a in 0..12u32 {
+        for b in 0..8u32 {
+            for c in 0..12u32 {
+                for d in 0..8u32 {
+                    let (left, right) = (nth_range(a, b), nth_range(c, d));
+                    if of_type.lo <= left.lo && left.hi <= of_type.hi && right.hi <= 7 {
+                        if !are_decided(signed, &left, &right) {
+                            count = count.saturating_add(1);
+                        }
+                    }
+                }
+            }
+        }
+    }
+    count
+}
+
+#[test]
+fn checks_that_ranges_decide(rt: HostRuntime) {
+    assert_eq!(rt; wrongly_decided(true), 0);
+    assert_eq!(rt; wrongly_decided(false), 0);
+    let byte = Ends { lo: -128, hi: 127 };
+    let int = Ends {
+        lo: -0x8000_0000,
+        hi: 0x7fff_ffff,
+    };
+    let (none, one) = (Ends { lo: 0, hi: 0 }, Ends { lo: 1, hi: 1 });
+    assert_eq!(rt;
+        always_passes(Check::Overflow, Operator::Shl, &int, 32, &none, &int),
+        true
+    );
+    assert_eq!(rt;
+        always_passes(Check::Overflow, Operator::Shl, &int, 32, &one, &int),
+        false
+    );
+    assert_eq!(rt;
+        always_passes(Check::Overflow, Operator::Mul, &int, 32, &byte, &byte),
+        true
+    );
+    assert_eq!(rt;
+        always_passes(Check::Overflow, Operator::Add, &int, 32, &int, &one),
+        false
+    );
+    assert_eq!(rt;
+        unary_always_passes(UnaryOperator::Negate, &int, 32, &byte),
+        true
+    );
+    assert_eq!(rt;
+        unary_always_passes(UnaryOperator::Negate, &int, 32, &int),
+        false
+    );
+    assert_eq!(rt;
+        unary_always_passes(UnaryOperator::Complement, &int, 32, &int),
+        true
+    );
+    results_are_typed();
+    unary_results_are_typed();
+    conversions_are_typed();
 }

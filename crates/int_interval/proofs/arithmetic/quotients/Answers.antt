@@ -9,4 +9,5 @@ returns c =
     let fb = c.ranges.b in
     let fc = c.ranges.c in
     let fd = c.ranges.d in
-    c.corners.ensures ∙ corner_four _ c.args.a c.args.b c.args.c c.args.d _ _ _ _ (simp to_z-of_z at c.quotient.ensures) (simp to_z-of_z at c.quotient-2.ensures) (simp to_z-of_z at c.quotient-3.ensures) (simp to_z-of_z at c.quotient-4.ensures)
+    c.corners.ensures ∙ corner_four _ c.args.a c.args.b c.args.c c.args.d _ _ _ _ (simp to_z-of_z at c.quotient.ensures) (simp to_z-of_z at c.quotient-2.ensures)
+    (simp to_z-of_z at c.quotient-3.ensures) (simp to_z-of_z at c.quotient-4.ensures)

@@ -1,5 +1,14 @@
-use Rattle.int_interval.proofs.Cover.{join_left, join_right, meet_both, meet_holds, included_holds}
+use Rattle.int_interval.proofs.Cover.{contains_member, empty_none, just_same, join_left, join_right, meet_both, meet_holds, included_holds}
 use Rattle.int_interval.proofs.laws.set_laws.Goals as goal
+
+pub returns-clause-contains : goal.returns-clause-contains
+returns-clause-contains c = contains_member
+
+pub returns-clause-is_empty : goal.returns-clause-is_empty
+returns-clause-is_empty c = empty_none
+
+pub returns-clause-is_just : goal.returns-clause-is_just
+returns-clause-is_just c = just_same
 
 pub returns-clause-join : goal.returns-clause-join
 returns-clause-join c = λ a b z. (join_left a b z, join_right a b z)

@@ -9,4 +9,5 @@ returns c =
     let fb = c.ranges.b in
     let fc = c.ranges.c in
     let fd = c.ranges.d in
-    c.corners.ensures ∙ corner_four _ c.args.a c.args.b c.args.c c.args.d _ _ _ _ (simp to_z-of_z at c.left_shift.ensures) (simp to_z-of_z at c.left_shift-2.ensures) (simp to_z-of_z at c.left_shift-3.ensures) (simp to_z-of_z at c.left_shift-4.ensures)
+    c.corners.ensures ∙ corner_four _ c.args.a c.args.b c.args.c c.args.d _ _ _ _ (simp to_z-of_z at c.left_shift.ensures) (simp to_z-of_z at c.left_shift-2.ensures)
+    (simp to_z-of_z at c.left_shift-3.ensures) (simp to_z-of_z at c.left_shift-4.ensures)

@@ -13,4 +13,4 @@ returns c =
     let fl = c.ranges.lo in
     let fv = c.ranges.value in
     let e = simp to_z-of_z at c.residue_of_difference-step.ensures.value in
-    stepped c.args.lo _ _ (rw (c.unsigned_power.ensures) at e) (omega (arith, pow_64 c.args.width c.requires.width)) c.requires.low c.requires.high
+    stepped c.args.lo _ _ (rw (c.unsigned_power_of_two.ensures) at e) (omega (arith, pow_64 c.args.width c.requires.width)) c.requires.low c.requires.high

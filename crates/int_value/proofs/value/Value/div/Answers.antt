@@ -1,0 +1,7 @@
+use Rattle.std.proofs.Common.{subst, sym}
+use Rattle.int_value.specs.Typed.{IsReduced}
+use Rattle.int_value.proofs.Typed.{quotient_reduced}
+use Rattle.int_value.proofs.value.Value.div.Goals as goal
+
+pub divided-requires-clause-exact : goal.divided-requires-clause-exact
+divided-requires-clause-exact c = subst IsReduced (sym c.quotient-exact.ensures) (quotient_reduced c.args.self.now c.args.other.now)
