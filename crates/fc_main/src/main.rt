@@ -3,14 +3,17 @@
 //! `kernel_serve`.
 #![tactic(auto)]
 
+use core::thread::Anything;
 use fc_outside::{FileShelf, OutSink};
 use kernel_serve::{Status, fault_line, report_run};
+use large_stack::on_large_stack;
 use std::env;
 use std::io::{ErrorKind, Write};
 use std::process::ExitCode;
 
 fn main(rt: HostRuntime) -> ExitCode {
-    let status = run(&rt);
+    // Trees are as deep as a chain of operators in the file is long.
+    let status = on_large_stack(&rt, Anything, || run(&rt));
     if let Ok(line) = fault_line(rt.alloc(), &status) {
         // Where standard error takes nothing, the exit status still tells.
         let _ = rt.stderr().write_all(line.as_slice());

@@ -1,5 +1,5 @@
 -- The emitters after one more change.
-use Rattle.std.proofs.Common.{◌≡◌, ℕ, ◌+◌, List, [], ◌∷◌, ◌++◌, Bool, true, false, cond, Option, Some, None, not, ◌&&◌, ◌||◌, ◌<◌, bytes_eq, is_some, nat_lt, length, refl, ap, sym, ◌∙◌, arith}
+use Rattle.std.proofs.Common.{◌≡◌, ℕ, ◌+◌, List, [], ◌∷◌, ◌++◌, Bool, true, false, cond, Option, Some, None, not, ◌&&◌, ◌||◌, bytes_eq, is_some, nat_lt, length, refl, ap, sym, ◌∙◌, arith}
 use Rattle.fc_base.specs.declared.ids.EmitterId.{EmitterId}
 use Rattle.fc_base.specs.declared.params.ParamSet.{ParamSet}
 use Rattle.param_book.specs.Emitters.{own_count, own_named}
@@ -7,7 +7,7 @@ use Rattle.status_history.specs.declared.history.Change.{Change}
 use Rattle.status_history.specs.declared.history.Change.TheVariants.{Register, Param, Emit}
 use Rattle.status_history.specs.declared.history.Entry.{Entry}
 use Rattle.event_script.specs.Names.{number_told, with_told}
-use Rattle.kernel_serve.specs.Allowed.{emitters_from, emitters_of, is_new, is_taken, registered}
+use Rattle.kernel_serve.specs.Allowed.{emitters_from, emitters_of, is_new, registered}
 
 abbrev the : ℕ → EmitterId
 the n = record { 0 = n }

@@ -1,25 +1,25 @@
 -- What a call comes to that ends before it writes, and one that writes.
-use Rattle.std.proofs.Common.{◌≡◌, ◌++◌, ◌⊎◌, inl, inr, ℕ, List, [], Option, None, Some, refl, sym, ap, subst, ◌∙◌}
-use Rattle.std.specs.Prelude.{IfSome}
+use Rattle.std.proofs.Common.{◌≡◌, ◌++◌, ◌⊎◌, inl, inr, ◌<◌, ◌≤◌, length, take, ℕ, List, [], Option, None, Some, refl, sym, ap, subst, ◌∙◌}
+use Rattle.std.specs.Prelude.{IfSome, Result, Ok, Err}
+use Rattle.std.specs.Global.{Vec}
 use Rattle.std.specs.Io.KnownBytes.{append_known}
 use Rattle.std.proofs.lemmas.List.{append-nil}
 use Rattle.std.proofs.lemmas.Option.{none-some, same_Some}
 use Rattle.c_front.specs.declared.tree.Unit.{Unit}
-use Rattle.c_front.specs.Program.{IsProgram, OneTree}
 use Rattle.c_front.specs.Rows.{props_of}
 use Rattle.c_first_runs.specs.Run.{runs_of}
 use Rattle.c_first_runs.specs.RunLaws.{ProgramVerdictsAreTrue}
-use Rattle.fc_outside.specs.Contents.{contents_of, told_contents}
+use Rattle.fc_outside.specs.Contents.{contents_of}
 use Rattle.status_history.specs.declared.history.Change.{Change}
 use Rattle.kernel_serve.specs.declared.status.Status.{Status}
 use Rattle.kernel_serve.specs.declared.status.Status.TheVariants as S
-use Rattle.kernel_serve.specs.Asked.{HasProgram}
-use Rattle.kernel_serve.specs.Headline.{Complete, Outcome, Says, SaysAtDone, TrueReport}
+use Rattle.kernel_serve.specs.Headline.{Complete, Outcome, Says, TrueReport}
+use Rattle.kernel_serve.specs.Limits.{most_script}
 use Rattle.kernel_serve.specs.Script.{changes_of}
-use Rattle.kernel_serve.specs.Stages.{AtFile, AtScript, AtWords, Works, history_of, report_of}
+use Rattle.kernel_serve.specs.Stages.{AtChanges, AtFile, AtScript, AtWords, IsRead, Works, history_of, report_of}
 use Rattle.kernel_serve.specs.Told.{Files, WhereTold}
 use Rattle.kernel_serve.specs.Words.{Command, report_command}
-use Rattle.kernel_serve.specs.inner.Steps.{IsStop, StopsAtFile}
+use Rattle.kernel_serve.specs.inner.Steps.{IsStop, OnlyReport, OnlyText, StopsAtFile}
 use Rattle.kernel_serve.proofs.External.{all_right}
 
 -- a fact, where all is told and nothing was written
@@ -32,6 +32,7 @@ says_nothing : (words : List (List ℕ)) (status : Status) (fs : Files) (bs now 
 says_nothing words S.ReadFault fs bs now stop = tt
 says_nothing words S.Memory fs bs now stop = tt
 says_nothing words (S.Refused fault) fs bs now stop = tt
+says_nothing words (S.Limit fault) fs bs now stop = tt
 says_nothing words S.Done fs bs now stop = absurd stop
 says_nothing words S.Usage fs bs now stop = tt
 says_nothing words S.WriteFault fs bs now stop = tt
@@ -50,6 +51,7 @@ outcome_of : (words : List (List ℕ)) (c : Command) (status : Status) (fs : Fil
 outcome_of words c S.ReadFault fs bs is stop stops = refl
 outcome_of words c S.Memory fs bs is stop stops = refl
 outcome_of words c (S.Refused fault) fs bs is stop stops = ([], at_words words c fs (S.Refused fault) [] is stops, sym (append-nil bs))
+outcome_of words c (S.Limit fault) fs bs is stop stops = ([], at_words words c fs (S.Limit fault) [] is stops, sym (append-nil bs))
 outcome_of words c S.Done fs bs is stop stops = absurd stop
 outcome_of words c S.Usage fs bs is stop stops = absurd stop
 outcome_of words c S.WriteFault fs bs is stop stops = absurd stop
@@ -58,37 +60,43 @@ pub stop_outcome : (words : List (List ℕ)) (c : Command) (status : Status) (fi
 stop_outcome words c status files before is stop stops =
     untouched files before (Outcome words status) (λ fs bs told. outcome_of words c status fs bs is stop (told_stop files fs c status told stops))
 
--- the script's stage, where changes are to be given
-at_changes : (t : _) (cs : List Change) (o : Option (List Change)) (status : Status) (out : List ℕ) → o ≡ Some cs → AtScript t o status out → (status ≡ S.Done) × (out ≡ report_of t cs)
-at_changes t cs o status out is at = subst (λ p. AtScript t p status out) is at
-
--- what the file's stage comes to, where the file is a program and the script makes changes
-at_program : OneTree → (fs : Files) (c : Command) (u : Unit) (cs : List Change) (status : Status) (out : List ℕ) → IsProgram (contents_of c.file fs) u → changes_of (props_of u) (contents_of c.script fs) ≡ Some cs → AtFile fs c status out → (status ≡ S.Done) × (out ≡ report_of (props_of u) cs)
-at_program law fs c u cs status out program made (inl refused) = absurd (refused.0 u program)
-at_program law fs c u cs status out program made (inr (v, spelled, at)) =
-    let same : v ≡ u = law (contents_of c.file fs) v u spelled program in
-    let there = subst (λ (w : Unit). AtScript (props_of w) (changes_of (props_of w) (contents_of c.script fs)) status out) same at in
-    at_changes (props_of u) cs (changes_of (props_of u) (contents_of c.script fs)) status out made there
-
-complete_of : OneTree → (words : List (List ℕ)) (c : Command) (status : Status) (fs : Files) (bs : List ℕ) → report_command words ≡ Some c → IsStop status → (status ≡ S.ReadFault → ⊥) → StopsAtFile fs c status → Complete words status fs bs bs
-complete_of law words c S.ReadFault fs bs is stop quiet stops d u cs call program made = absurd (quiet refl)
-complete_of law words c S.Memory fs bs is stop quiet stops d u cs call program made = inl refl
-complete_of law words c (S.Refused fault) fs bs is stop quiet stops d u cs call program made =
+complete_of : (words : List (List ℕ)) (c : Command) (status : Status) (fs : Files) (bs : List ℕ) → report_command words ≡ Some c → (status ≡ S.ReadFault → ⊥) → OnlyReport fs c (Err status) → Complete words status fs bs bs
+complete_of words c status fs bs is quiet only d u cs call read within made =
     let same : c ≡ d = same_Some c d (sym is ∙ call) in
-    let ended = at_program law fs d u cs (S.Refused fault) [] program made (subst (λ (e : Command). AtFile fs e (S.Refused fault) []) same stops) in
-    absurd cc
-complete_of law words c S.Done fs bs is stop quiet stops d u cs call program made = absurd stop
-complete_of law words c S.Usage fs bs is stop quiet stops d u cs call program made = absurd stop
-complete_of law words c S.WriteFault fs bs is stop quiet stops d u cs call program made = absurd stop
+    not_read status quiet (subst (λ (e : Command). OnlyReport fs e (Err status)) same only u cs read within made)
+  where
+    not_read : (status : Status) → (status ≡ S.ReadFault → ⊥) → OnlyText (report_of (props_of u) cs) (Err status) → (status ≡ S.Memory) ⊎ ((status ≡ S.Done) × (bs ≡ bs ++ report_of (props_of u) cs))
+    not_read S.ReadFault quiet h = absurd (quiet refl)
+    not_read S.Memory quiet h = inl refl
+    not_read (S.Refused fault) quiet h = absurd h
+    not_read (S.Limit fault) quiet h = absurd h
+    not_read S.Done quiet h = absurd h
+    not_read S.Usage quiet h = absurd h
+    not_read S.WriteFault quiet h = absurd h
 
-pub stop_complete : OneTree → (words : List (List ℕ)) (c : Command) (status : Status) (files : Option Files) (before : Option (List ℕ)) → report_command words ≡ Some c → IsStop status → (status ≡ S.ReadFault → ⊥) → IfSome files (λ fs. StopsAtFile fs c status) → WhereTold files before before (Complete words status)
-stop_complete law words c status files before is stop quiet stops =
-    untouched files before (Complete words status) (λ fs bs told. complete_of law words c status fs bs is stop quiet (told_stop files fs c status told stops))
+told_only : (files : Option Files) (fs : Files) (c : Command) (answer : Result (Vec ℕ) Status) → files ≡ Some fs → IfSome files (λ fs. OnlyReport fs c answer) → OnlyReport fs c answer
+told_only files fs c answer is only = subst (λ o. IfSome o (λ fs. OnlyReport fs c answer)) is only
+
+pub stop_complete : (words : List (List ℕ)) (c : Command) (status : Status) (files : Option Files) (before : Option (List ℕ)) → report_command words ≡ Some c → (status ≡ S.ReadFault → ⊥) → IfSome files (λ fs. OnlyReport fs c (Err status)) → WhereTold files before before (Complete words status)
+stop_complete words c status files before is quiet only =
+    untouched files before (Complete words status) (λ fs bs told. complete_of words c status fs bs is quiet (told_only files fs c (Err status) told only))
+
+-- what was written is the whole report
+written_whole : (words : List (List ℕ)) (c : Command) (fs : Files) (bs : List ℕ) (text : Vec ℕ) → report_command words ≡ Some c → OnlyReport fs c (Ok text) → Complete words S.Done fs bs (bs ++ text.items)
+written_whole words c fs bs text is only d u cs call read within made =
+    let same : c ≡ d = same_Some c d (sym is ∙ call) in
+    inr (refl, ap (λ t. bs ++ t) (subst (λ (e : Command). OnlyReport fs e (Ok text)) same only u cs read within made))
+
+pub done_complete : (words : List (List ℕ)) (c : Command) (files : Option Files) (before after : Option (List ℕ)) (text : Vec ℕ) → report_command words ≡ Some c → IfSome files (λ fs. OnlyReport fs c (Ok text)) → after ≡ append_known before text.items → WhereTold files before after (Complete words S.Done)
+done_complete words c None before after text is only written = tt
+done_complete words c (Some fs) None after text is only written = tt
+done_complete words c (Some fs) (Some bs) after text is only written = (bs ++ text.items, written, written_whole words c fs bs text is only)
 
 stop_apart : (status : Status) → IsStop status → (status ≡ S.Usage → ⊥) × (status ≡ S.WriteFault → ⊥)
 stop_apart S.ReadFault stop = ((λ e. absurd cc), (λ e. absurd cc))
 stop_apart S.Memory stop = ((λ e. absurd cc), (λ e. absurd cc))
 stop_apart (S.Refused fault) stop = ((λ e. absurd cc), (λ e. absurd cc))
+stop_apart (S.Limit fault) stop = ((λ e. absurd cc), (λ e. absurd cc))
 stop_apart S.Done stop = absurd stop
 stop_apart S.Usage stop = absurd stop
 stop_apart S.WriteFault stop = absurd stop
@@ -101,21 +109,30 @@ pub no_write_fault : {A : Type 0} (status : Status) → IsStop status → status
 no_write_fault status stop e = absurd ((stop_apart status stop).1 e)
 
 -- what is written at Done is true
-true_script : ProgramVerdictsAreTrue → (c : Command) (fs : Files) (out : List ℕ) (u : Unit) (o : Option (List Change)) → IsProgram (contents_of c.file fs) u → changes_of (props_of u) (contents_of c.script fs) ≡ o → AtScript (props_of u) o S.Done out → TrueReport c fs out
+true_changes : ProgramVerdictsAreTrue → (c : Command) (fs : Files) (out : List ℕ) (u : Unit) (o : Option (List Change)) → IsRead (contents_of c.file fs) u → length (contents_of c.script fs) ≤ most_script → changes_of (props_of u) (contents_of c.script fs) ≡ o → AtChanges (props_of u) o S.Done out → TrueReport c fs out
 unfolding report_of
-true_script law c fs out u None program is at = absurd cc
-true_script law c fs out u (Some cs) program is at = record {
+true_changes law c fs out u None read within is at = absurd cc
+true_changes law c fs out u (Some cs) read within is at = record {
   program = u;
-  is_program = program;
+  is_read = read;
   changes = cs;
+  within = within;
   made = is;
   printed = at.1;
   true_of_runs = λ right. law u (history_of cs) (all_right (runs_of u) (props_of u) (contents_of c.script fs) cs is right);
 }
 
+true_script : ProgramVerdictsAreTrue → (c : Command) (fs : Files) (out : List ℕ) (u : Unit) → IsRead (contents_of c.file fs) u → AtScript (props_of u) (contents_of c.script fs) S.Done out → TrueReport c fs out
+true_script law c fs out u read (inl long) = absurd cc
+true_script law c fs out u read (inr (within, at)) = true_changes law c fs out u (changes_of (props_of u) (contents_of c.script fs)) read within refl at
+
 true_report : ProgramVerdictsAreTrue → (c : Command) (fs : Files) (out : List ℕ) → AtFile fs c S.Done out → TrueReport c fs out
-true_report law c fs out (inl refused) = absurd cc
-true_report law c fs out (inr (u, program, at)) = true_script law c fs out u (changes_of (props_of u) (contents_of c.script fs)) program refl at
+true_report law c fs out (inl long) = absurd cc
+true_report law c fs out (inr (within, inl stuck)) = absurd cc
+true_report law c fs out (inr (within, inr (ts, lexes, inl fault))) = absurd cc
+true_report law c fs out (inr (within, inr (ts, lexes, inr (is, parses, inl none)))) = absurd cc
+true_report law c fs out (inr (within, inr (ts, lexes, inr (is, parses, inr (u, program, at))))) =
+    true_script law c fs out u (record { within = within; tokens = ts; lexes = lexes; items = is; parses = parses; is_program = program }) at
 
 pub done_says : ProgramVerdictsAreTrue → (words : List (List ℕ)) (c : Command) (files : Option Files) (before after : Option (List ℕ)) (text : List ℕ) → report_command words ≡ Some c → IfSome files (λ fs. AtFile fs c S.Done text) → after ≡ append_known before text → WhereTold files before after (Says words S.Done)
 done_says law words c None before after text is at written = tt
@@ -123,7 +140,14 @@ done_says law words c (Some fs) None after text is at written = tt
 done_says law words c (Some fs) (Some bs) after text is at written =
     (bs ++ text, written, record { command = c; is_command = is; out = text; appended = refl; report = true_report law c fs text at })
 
--- a file that is a program is one
-pub has_program : (files : Option Files) (name : List ℕ) (u : Unit) → IfSome (told_contents name files) (λ bytes. IsProgram bytes u) → HasProgram files name
-has_program None name u h = tt
-has_program (Some fs) name u h = (u, h)
+pub done_outcome : (words : List (List ℕ)) (c : Command) (files : Option Files) (before after : Option (List ℕ)) (text : List ℕ) → report_command words ≡ Some c → IfSome files (λ fs. AtFile fs c S.Done text) → after ≡ append_known before text → WhereTold files before after (Outcome words S.Done)
+done_outcome words c None before after text is at written = tt
+done_outcome words c (Some fs) None after text is at written = tt
+done_outcome words c (Some fs) (Some bs) after text is at written = (bs ++ text, written, (text, at_words words c fs S.Done text is at, refl))
+
+-- a prefix of the report was written
+pub fault_outcome : (words : List (List ℕ)) (c : Command) (files : Option Files) (before after : Option (List ℕ)) (text : List ℕ) → report_command words ≡ Some c → IfSome files (λ fs. AtFile fs c S.Done text) → (n : ℕ) × (n < length text) × (after ≡ append_known before (take n text)) → WhereTold files before after (Outcome words S.WriteFault)
+fault_outcome words c None before after text is at written = tt
+fault_outcome words c (Some fs) None after text is at written = tt
+fault_outcome words c (Some fs) (Some bs) after text is at written =
+    (bs ++ take written.0 text, written.2, (text, at_words words c fs S.Done text is at, (written.0, written.1, refl)))

@@ -1,9 +1,8 @@
 -- The entries of a script's history are of registered emitters.
-use Rattle.std.proofs.Common.{◌≡◌, ℕ, ◌+◌, List, [], ◌∷◌, ◌++◌, Bool, true, false, cond, Option, Some, None, length, refl, ap, sym, subst, ◌∙◌}
-use Rattle.std.specs.Prelude.{not, filter, nat_le, nat_lt, ◌&&◌}
-use Rattle.std.specs.List.{list_all, list_any}
+use Rattle.std.proofs.Common.{◌≡◌, ℕ, ◌+◌, List, [], ◌∷◌, ◌++◌, Bool, true, false, cond, Option, Some, None, length, refl, subst}
+use Rattle.std.specs.Prelude.{nat_lt}
 use Rattle.std.specs.Option.{option_and_then}
-use Rattle.std.proofs.lemmas.Bool.{and_parts, false≢true}
+use Rattle.std.proofs.lemmas.Bool.{and_parts}
 use Rattle.std.proofs.lemmas.Option.{none-some, same_Some}
 use Rattle.param_book.specs.Emitters.{is_external}
 use Rattle.c_ir.specs.Props.{Props}
@@ -12,11 +11,11 @@ use Rattle.event_script.specs.declared.script.Wanted.{Wanted}
 use Rattle.event_script.specs.declared.script.Wanted.TheVariants.{Blank, Do, Run}
 use Rattle.status_history.specs.declared.history.Change.{Change}
 use Rattle.status_history.specs.declared.history.Change.TheVariants.{Register, Param, Emit}
-use Rattle.status_rules.specs.Counting.{PlacedEntry, counted_of, entries_from, entries_of}
+use Rattle.status_rules.specs.Counting.{counted_of, entries_from}
 use Rattle.status_rules.specs.Truth.{Runs, AllRight, ExternalRight}
 use Rattle.status_rules.proofs.Right.{Passing, external_alone}
 use Rattle.kernel_serve.specs.Allowed.{is_allowed, is_fit, is_registered, is_of_table, emitters_of, registered}
-use Rattle.kernel_serve.specs.Script.{changes_of, lines_of, most_bytes, with_change, with_line, with_lines, with_wanted}
+use Rattle.kernel_serve.specs.Script.{changes_of, lines_of, with_line, with_lines, with_wanted}
 use Rattle.kernel_serve.specs.Stages.{history_of}
 
 -- each entry is of a registered emitter
@@ -63,15 +62,7 @@ after_lines t cs now (line ∷ lines) is all =
 
 all_external : (t : Props) (bytes : List ℕ) (cs : List Change) → changes_of t bytes ≡ Some cs → External cs
 unfolding changes_of External
-all_external t bytes cs is = by_test (nat_le (length bytes) most_bytes) [] cs cs (whole (nat_le (length bytes) most_bytes) is) tt (λ h. after_lines t [] cs (lines_of bytes) (part (nat_le (length bytes) most_bytes) h is) tt)
-  where
-    part : (b : Bool) → b ≡ true → cond b (with_lines t [] (lines_of bytes)) None ≡ Some cs → with_lines t [] (lines_of bytes) ≡ Some cs
-    part true h made = made
-    part false h made = absurd (false≢true h)
-
-    whole : (b : Bool) → cond b (with_lines t [] (lines_of bytes)) None ≡ Some cs → cond b (Some cs) None ≡ Some cs
-    whole true made = refl
-    whole false made = made
+all_external t bytes cs is = after_lines t [] cs (lines_of bytes) is tt
 
 passing : (n : ℕ) (cs : List Change) → External cs → Passing (λ e. is_external e.entry.emitter) (entries_from n cs)
 unfolding External

@@ -2,4 +2,6 @@ pub mod Emitters
 pub mod Ended
 pub mod External
 pub mod FirstLine
+pub mod Fronted
+pub mod Stopped
 pub mod Whole

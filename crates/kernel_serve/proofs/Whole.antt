@@ -1,46 +1,26 @@
--- A file of which at most 65,537 bytes were read.
-use Rattle.std.proofs.Common.{◌≡◌, ◌+◌, ◌<◌, ◌≤◌, inl, inr, ℕ, List, Option, None, Some, IfSome, length, take, min, refl, sym, ◌∙◌, ap, subst, arith}
+-- A file of which at most one byte past its limit was read.
+use Rattle.std.proofs.Common.{◌≡◌, ◌+◌, ◌<◌, ◌⊎◌, inl, inr, ℕ, List, Option, None, Some, IfSome, length, take, min, subst, arith}
 use Rattle.std.specs.Prelude.{Result, Ok, Err}
 use Rattle.std.proofs.lemmas.List.{take_all, length-take}
-use Rattle.std.proofs.lemmas.Bool.{lt-leb}
-use Rattle.std.proofs.lemmas.Bool.Decides.{leb_tells}
+use Rattle.std.proofs.lemmas.Bool.{cases_lt}
 use Rattle.c_front.specs.declared.tree.Unit.{Unit}
-use Rattle.c_front.specs.Program.{IsProgram}
-use Rattle.fc_outside.specs.Whole.{FirstBytes}
 use Rattle.c_ir.specs.Props.{Props}
+use Rattle.fc_outside.specs.Whole.{FirstBytes}
 use Rattle.status_history.specs.declared.history.Change.{Change}
-use Rattle.kernel_serve.specs.Stages.{NoTree}
-use Rattle.kernel_serve.specs.Script.{changes_of}
+use Rattle.kernel_serve.specs.Limits.{most_file, most_script}
+use Rattle.kernel_serve.specs.Stages.{AtLength}
 use Rattle.kernel_serve.specs.declared.status.Status.{Status}
 use Rattle.kernel_serve.specs.declared.status.Status.TheVariants as S
-use Rattle.kernel_serve.specs.inner.Steps.{GivesChanges, UnlessReadFault}
+use Rattle.kernel_serve.specs.inner.Steps.{IsFileAnswer, IsScriptAnswer, StopsInFile, UnlessReadFault, nothing}
 
--- what was read is all, if it is within the limit
-pub all_read : (all : List ℕ) (most : ℕ) → length (take (most + 1) all) ≤ most → take (most + 1) all ≡ all
-all_read all most h =
+-- what was read is all, or it is past the limit, and so is all
+pub read_or_long : (all : List ℕ) (most : ℕ) → (take (most + 1) all ≡ all) ⊎ ((most < length (take (most + 1) all)) × (most < length all))
+read_or_long all most =
     let e : length (take (most + 1) all) ≡ min (most + 1) (length all) = length-take (most + 1) all in
-    take_all (most + 1) all (omega (arith, e, h))
-
--- a tree of what was read is one of all
-pub tree_of_all : (told : Option (List ℕ)) (bytes : List ℕ) (u : Unit) → FirstBytes 65537 told bytes → IsProgram bytes u → IfSome told (λ all. IsProgram all u)
-tree_of_all None bytes u first p = tt
-tree_of_all (Some all) bytes u first p =
-    let e : bytes ≡ all = first ∙ all_read all 65536 (subst (λ (bs : List ℕ). length bs ≤ 65536) first p.within) in
-    subst (λ (bs : List ℕ). IsProgram bs u) e p
-
--- where what was read has none, all has none
-pub no_tree_of_all : (told : Option (List ℕ)) (bytes : List ℕ) → FirstBytes 65537 told bytes → NoTree bytes → IfSome told NoTree
-no_tree_of_all None bytes first none = tt
-no_tree_of_all (Some all) bytes first none =
-    λ (u : Unit) (p : IsProgram all u).
-    let h : length all ≤ 65536 = p.within in
-    let e : bytes ≡ all = first ∙ take_all 65537 all (omega (arith, h)) in
-    none u (subst (λ (bs : List ℕ). IsProgram bs u) (sym e) p)
-
--- where what was read is refused, all is
-pub refused_all : (told : Option (List ℕ)) (status : Status) → IfSome told NoTree → IfSome told (λ all. (status ≡ status) × NoTree all)
-refused_all None status none = tt
-refused_all (Some all) status none = (refl, none)
+    elim (cases_lt most (length all)) [
+      | inl long ↦ inr (omega (arith, e, long), long)
+      | inr short ↦ inl (take_all (most + 1) all (omega (arith, short)))
+    ]
 
 -- a fact, unless the answer is a fault of the shelf
 unless : {A : Type 0} (answer : Result A Status) (fact : Type 0) → fact → UnlessReadFault answer fact
@@ -51,21 +31,59 @@ unless (Err S.Done) fact h = h
 unless (Err (S.Refused f)) fact h = h
 unless (Err S.Usage) fact h = h
 unless (Err S.WriteFault) fact h = h
+unless (Err (S.Limit f)) fact h = h
 
--- what was read makes the changes that all makes
-changes_of_take : (t : Props) (all : List ℕ) → changes_of t (take 65537 all) ≡ changes_of t all
-unfolding changes_of
-changes_of_take t all =
-    elim (leb_tells (length all) 65536) [
-      | inl p ↦ let h : length all ≤ 65536 = p.1 in ap (changes_of t) (take_all (65536 + 1) all (omega (arith, h)))
-      | inr q ↦
-          let h : 65536 < length all = q.1 in
-          let e : length (take 65537 all) ≡ min 65537 (length all) = length-take 65537 all in
-          rw (lt-leb (length (take 65537 all)) 65536 (omega (arith, e, h)), q.0) refl
-    ]
+-- a file that is too long stops so, whatever its bytes are
+long_length : (file all : List ℕ) (status : Status) (out : List ℕ) → most_file < length file → most_file < length all → AtLength file nothing status out → AtLength all nothing status out
+long_length file all status out long longer (inl stops) = inl (longer, stops.1)
+long_length file all status out long longer (inr (within, at)) = absurd (omega (arith, long, within))
 
-pub changes_of_all : (t : Props) (told : Option (List ℕ)) (bytes : List ℕ) (answer : Result (List Change) Status) → FirstBytes 65537 told bytes → GivesChanges (changes_of t bytes) answer → IfSome told (λ all. UnlessReadFault answer (GivesChanges (changes_of t all) answer))
-changes_of_all t None bytes answer first h = tt
-changes_of_all t (Some all) bytes answer first h =
-    let same : changes_of t bytes ≡ changes_of t all = ap (changes_of t) first ∙ changes_of_take t all in
-    unless answer (GivesChanges (changes_of t all) answer) (subst (λ wanted. GivesChanges wanted answer) same h)
+long_stops : (file all : List ℕ) (status : Status) → most_file < length file → most_file < length all → StopsInFile file status → StopsInFile all status
+long_stops file all S.Memory long longer h = tt
+long_stops file all (S.Refused fault) long longer h = long_length file all (S.Refused fault) _ long longer h
+long_stops file all (S.Limit fault) long longer h = long_length file all (S.Limit fault) _ long longer h
+long_stops file all S.ReadFault long longer h = h
+long_stops file all S.Done long longer h = h
+long_stops file all S.Usage long longer h = h
+long_stops file all S.WriteFault long longer h = h
+
+long_answer : (file all : List ℕ) (answer : Result Unit Status) → most_file < length file → most_file < length all → IsFileAnswer file answer → IsFileAnswer all answer
+long_answer file all (Ok u) long longer h = let read = h.found in absurd (omega (arith, long, read.within))
+long_answer file all (Err status) long longer h = record {
+  found = tt;
+  stops = long_stops file all status long longer h.stops;
+  only = λ u read. absurd (omega (arith, longer, read.within));
+}
+
+file_answer : (all : List ℕ) (answer : Result Unit Status) → IsFileAnswer (take (most_file + 1) all) answer → IsFileAnswer all answer
+file_answer all answer h = elim (read_or_long all most_file) [
+  | inl same ↦ subst (λ (bs : List ℕ). IsFileAnswer bs answer) same h
+  | inr long ↦ long_answer (take (most_file + 1) all) all answer long.0 long.1 h
+]
+
+-- what was read is answered as all is
+pub file_of_all : (told : Option (List ℕ)) (bytes : List ℕ) (answer : Result Unit Status) → FirstBytes (most_file + 1) told bytes → IsFileAnswer bytes answer → IfSome told (λ all. UnlessReadFault answer (IsFileAnswer all answer))
+file_of_all None bytes answer first h = tt
+file_of_all (Some all) bytes answer first h =
+    unless answer (IsFileAnswer all answer) (file_answer all answer (subst (λ (bs : List ℕ). IsFileAnswer bs answer) first h))
+
+long_script : (t : Props) (script all : List ℕ) (answer : Result (List Change) Status) → most_script < length script → most_script < length all → IsScriptAnswer t script answer → IsScriptAnswer t all answer
+long_script t script all (Ok cs) long longer h = absurd (omega (arith, long, h.0))
+long_script t script all (Err S.Memory) long longer h = tt
+long_script t script all (Err (S.Refused fault)) long longer h = absurd (omega (arith, long, h.1))
+long_script t script all (Err (S.Limit fault)) long longer h = (h.0, longer)
+long_script t script all (Err S.ReadFault) long longer h = h
+long_script t script all (Err S.Done) long longer h = h
+long_script t script all (Err S.Usage) long longer h = h
+long_script t script all (Err S.WriteFault) long longer h = h
+
+script_answer : (t : Props) (all : List ℕ) (answer : Result (List Change) Status) → IsScriptAnswer t (take (most_script + 1) all) answer → IsScriptAnswer t all answer
+script_answer t all answer h = elim (read_or_long all most_script) [
+  | inl same ↦ subst (λ (bs : List ℕ). IsScriptAnswer t bs answer) same h
+  | inr long ↦ long_script t (take (most_script + 1) all) all answer long.0 long.1 h
+]
+
+pub script_of_all : (t : Props) (told : Option (List ℕ)) (bytes : List ℕ) (answer : Result (List Change) Status) → FirstBytes (most_script + 1) told bytes → IsScriptAnswer t bytes answer → IfSome told (λ all. UnlessReadFault answer (IsScriptAnswer t all answer))
+script_of_all t None bytes answer first h = tt
+script_of_all t (Some all) bytes answer first h =
+    unless answer (IsScriptAnswer t all answer) (script_answer t all answer (subst (λ (bs : List ℕ). IsScriptAnswer t bs answer) first h))

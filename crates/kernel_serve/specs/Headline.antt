@@ -1,8 +1,7 @@
 -- What a call of `report_run` comes to, `Outcome`, and what it says of the program's runs, `Says`, where the shelf
 -- tells its files and the sink the bytes that it holds (this project's own).
-use Rattle.std.specs.Prelude.{◌≡◌, ◌⊎◌, ◌<◌, ◌++◌, ℕ, false, List, Option, Some, length, take}
+use Rattle.std.specs.Prelude.{◌≡◌, ◌⊎◌, ◌<◌, ◌≤◌, ◌++◌, ℕ, false, List, Option, Some, length, take}
 use Rattle.c_front.specs.declared.tree.Unit.{Unit}
-use Rattle.c_front.specs.Program.{IsProgram}
 use Rattle.c_front.specs.Rows.{props_of}
 use Rattle.c_first_runs.specs.Run.{runs_of}
 use Rattle.fc_outside.specs.Contents.{contents_of}
@@ -13,8 +12,9 @@ use Rattle.status_rules.specs.Truth.{AllTrue, ExternalRight}
 use Rattle.status_rules.specs.Verdicts.{full_of}
 use Rattle.kernel_serve.specs.declared.status.Status.{Status}
 use Rattle.kernel_serve.specs.declared.status.Status.TheVariants as S
+use Rattle.kernel_serve.specs.Limits.{most_script}
 use Rattle.kernel_serve.specs.Script.{changes_of}
-use Rattle.kernel_serve.specs.Stages.{Works, history_of, report_of}
+use Rattle.kernel_serve.specs.Stages.{IsRead, Works, history_of, report_of}
 use Rattle.kernel_serve.specs.Told.{Files}
 use Rattle.kernel_serve.specs.Words.{Command, report_command}
 
@@ -22,11 +22,12 @@ use Rattle.kernel_serve.specs.Words.{Command, report_command}
 pub record TrueReport (command : Command) (files : Files) (out : List ℕ) : Type 0 where
   -- the tree of the named file
   pub program : Unit
-  -- the named file's bytes are that program
-  pub is_program : IsProgram (contents_of command.file files) program
+  -- the named file's bytes pass all stages, and are that program
+  pub is_read : IsRead (contents_of command.file files) program
   -- the changes of the named script
   pub changes : List Change
-  -- the named script's bytes make these changes, all of them allowed
+  -- the named script is within its limit, and its bytes make these changes, all of them allowed
+  pub within : length (contents_of command.script files) ≤ most_script
   pub made : changes_of (props_of program) (contents_of command.script files) ≡ Some changes
   -- the bytes are the report that prints full recomputation over these changes
   pub printed : out ≡ report_text (props_of program).rows (full_of (history_of changes) (props_of program)) false
@@ -59,12 +60,12 @@ Outcome words S.WriteFault files before after =
     (out : List ℕ) × Works words files S.Done out × ((n : ℕ) × (n < length out) × (after ≡ before ++ take n out))
 Outcome words status files before after = (out : List ℕ) × Works words files status out × (after ≡ before ++ out)
 
--- Clause `complete`: words that are a command, a file that is a program and a script of allowed changes give Done
--- with the whole report, or Memory.
+-- Clause `complete`: words that are a command, a file that passes all its stages and a script of allowed changes,
+-- within its limit, give Done with the whole report, or Memory.
 abbrev pub Complete : List (List ℕ) → Status → Files → List ℕ → List ℕ → Type 0
 Complete words status files before after =
-    (c : Command) (u : Unit) (cs : List Change) → report_command words ≡ Some c → IsProgram (contents_of c.file files) u
-    → changes_of (props_of u) (contents_of c.script files) ≡ Some cs
+    (c : Command) (u : Unit) (cs : List Change) → report_command words ≡ Some c → IsRead (contents_of c.file files) u
+    → length (contents_of c.script files) ≤ most_script → changes_of (props_of u) (contents_of c.script files) ≡ Some cs
     → (status ≡ S.Memory) ⊎ ((status ≡ S.Done) × (after ≡ before ++ report_of (props_of u) cs))
 
 -- Clause `unwritten`: only Done and WriteFault write.

@@ -1,5 +1,5 @@
 -- The changes that a script makes: `changes_of` (this project's own).
-use Rattle.std.specs.Prelude.{List, [], ◌∷◌, ◌++◌, ◌==◌, ℕ, nat_le, length, Option, None, Some, if◌then◌else◌}
+use Rattle.std.specs.Prelude.{List, [], ◌∷◌, ◌++◌, ◌==◌, ℕ, Option, None, Some, if◌then◌else◌}
 use Rattle.std.specs.List.{slice_split}
 use Rattle.std.specs.Option.{option_and_then}
 use Rattle.c_ir.specs.Props.{Props}
@@ -32,10 +32,6 @@ abbrev pub with_lines : Props → List Change → List (List ℕ) → Option (Li
 with_lines t cs [] = Some cs
 with_lines t cs (line ∷ lines) = option_and_then (λ now. with_lines t now lines) (with_line t cs line)
 
--- the most bytes that a file and a script may have
-abbrev pub most_bytes : ℕ
-most_bytes = 65536
-
 -- the changes of a script
 unfoldable pub changes_of : Props → List ℕ → Option (List Change)
-changes_of t bytes = if nat_le (length bytes) most_bytes then with_lines t [] (lines_of bytes) else None
+changes_of t bytes = with_lines t [] (lines_of bytes)

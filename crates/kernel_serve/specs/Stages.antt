@@ -1,6 +1,15 @@
 -- The work of a call, stage by stage: `Works`, what it ends with and writes where nothing outside fails and there is
 -- memory. Each stage ends the call or hands on to the next one (this project's own).
-use Rattle.std.specs.Prelude.{◌≡◌, ◌⊎◌, ℕ, false, List, [], Option, None, Some}
+use Rattle.std.specs.Prelude.{◌≡◌, ◌≢◌, ◌⊎◌, ◌+◌, ◌<◌, ◌≤◌, ℕ, false, List, [], Option, None, Some, length}
+use Rattle.c_ast.specs.declared.unit.Item.{Item}
+use Rattle.c_lex.specs.Tokens.{Lexes, Stuck}
+use Rattle.c_lex.specs.declared.fault.LexFault.{LexFault}
+use Rattle.c_lex.specs.declared.token.Token.{Token}
+use Rattle.c_parse.specs.Program.{IsFault, IsUnit}
+use Rattle.c_parse.specs.declared.text.ParseFault.{ParseFault}
+use Rattle.c_parse.specs.declared.text.ParseFault.TheVariants as P
+use Rattle.kernel_serve.specs.Limits.{most_file, most_script}
+use Rattle.kernel_serve.specs.declared.status.LimitFault.TheVariants as Limit
 use Rattle.param_book.specs.Table.{opening_values}
 use Rattle.c_ir.specs.Props.{Props}
 use Rattle.c_front.specs.declared.tree.Unit.{Unit}
@@ -39,16 +48,49 @@ StopsBy refusal status out = (status ≡ refusal) × (out ≡ [])
 abbrev pub AtReport : Props → List Change → Status → List ℕ → Type 0
 AtReport t cs status out = (status ≡ S.Done) × (out ≡ report_of t cs)
 
--- the script: it makes changes, or it is refused
-abbrev pub AtScript : Props → Option (List Change) → Status → List ℕ → Type 0
-AtScript t None status out = StopsBy (S.Refused (Fault.Unbuilt Input.Script)) status out
-AtScript t (Some cs) status out = AtReport t cs status out
+-- the changes of the script: its lines make them, or it is refused
+abbrev pub AtChanges : Props → Option (List Change) → Status → List ℕ → Type 0
+AtChanges t None status out = StopsBy (S.Refused (Fault.Unbuilt Input.Script)) status out
+AtChanges t (Some cs) status out = AtReport t cs status out
 
--- the file: it is a program of a tree, or it is refused
+-- the script: it is within its limit, or it is refused
+abbrev pub AtScript : Props → List ℕ → Status → List ℕ → Type 0
+AtScript t script status out =
+    ((most_script < length script) × StopsBy (S.Limit (Limit.ScriptTooLong (most_script + 1))) status out)
+    ⊎ ((length script ≤ most_script) × AtChanges t (changes_of t script) status out)
+
+-- what comes after the file's own stages, for its program
+abbrev pub Next : Type 1
+Next = Unit → Status → List ℕ → Type 0
+
+-- the small language: the file is a program of it, or it is refused
+abbrev pub AtSmall : List ℕ → Next → Status → List ℕ → Type 0
+AtSmall file next status out =
+    (NoTree file × StopsBy (S.Refused (Fault.Unbuilt Input.File)) status out)
+    ⊎ ((u : Unit) × IsProgram file u × next u status out)
+
+-- the grammar of C: the tokens are a text of C, or the reading stops
+abbrev pub AtParse : List ℕ → List Token → Next → Status → List ℕ → Type 0
+AtParse file tokens next status out =
+    ((f : ParseFault) × IsFault file tokens f × (f ≢ P.Memory) × StopsBy (S.Refused (Fault.Parse f)) status out)
+    ⊎ ((items : List Item) × IsUnit file items tokens × AtSmall file next status out)
+
+-- tokens: the file has tokens of C, or a first fault
+abbrev pub AtLex : List ℕ → Next → Status → List ℕ → Type 0
+AtLex file next status out =
+    ((f : LexFault) × Stuck file f × StopsBy (S.Refused (Fault.Lex f)) status out)
+    ⊎ ((tokens : List Token) × Lexes file tokens × AtParse file tokens next status out)
+
+-- the file: it is within its limit, or it is refused
+abbrev pub AtLength : List ℕ → Next → Status → List ℕ → Type 0
+AtLength file next status out =
+    ((most_file < length file) × StopsBy (S.Limit (Limit.FileTooLong (most_file + 1))) status out)
+    ⊎ ((length file ≤ most_file) × AtLex file next status out)
+
+-- both files of a command
 abbrev pub AtFile : Files → Command → Status → List ℕ → Type 0
 AtFile files c status out =
-    (NoTree (contents_of c.file files) × StopsBy (S.Refused (Fault.Unbuilt Input.File)) status out)
-    ⊎ ((u : Unit) × IsProgram (contents_of c.file files) u × AtScript (props_of u) (changes_of (props_of u) (contents_of c.script files)) status out)
+    AtLength (contents_of c.file files) (λ u. AtScript (props_of u) (contents_of c.script files)) status out
 
 -- the words: they are a command, or they are refused
 abbrev pub AtWords : Files → Option Command → Status → List ℕ → Type 0
@@ -57,3 +99,12 @@ AtWords files (Some c) status out = AtFile files c status out
 
 abbrev pub Works : List (List ℕ) → Files → Status → List ℕ → Type 0
 Works words files status out = AtWords files (report_command words) status out
+
+-- What is read: a file that passes all its stages, of this program.
+pub record IsRead (file : List ℕ) (u : Unit) : Type 0 where
+  pub within : length file ≤ most_file
+  pub tokens : List Token
+  pub lexes : Lexes file tokens
+  pub items : List Item
+  pub parses : IsUnit file items tokens
+  pub is_program : IsProgram file u

@@ -1,7 +1,14 @@
--- What a program says of how a call ended (this project's own).
-use Rattle.std.specs.Prelude.{ℕ, List, [], codes}
+-- What a program says of how a call ended: `exit_status`, `fault_text` (this project's own).
+use Rattle.std.specs.Prelude.{ℕ, List, [], ◌++◌, codes}
+use Rattle.std.specs.Fmt.{decimal}
+use Rattle.c_lex.specs.declared.fault.LexFault.{LexFault}
+use Rattle.c_lex.specs.declared.fault.LexFault.TheVariants as L
+use Rattle.c_parse.specs.declared.text.ParseFault.{ParseFault}
+use Rattle.c_parse.specs.declared.text.ParseFault.TheVariants as P
 use Rattle.kernel_serve.specs.declared.status.Input.TheVariants as Input
 use Rattle.kernel_serve.specs.declared.status.FrontFault.TheVariants as Fault
+use Rattle.kernel_serve.specs.declared.status.LimitFault.{LimitFault}
+use Rattle.kernel_serve.specs.declared.status.LimitFault.TheVariants as Limit
 use Rattle.kernel_serve.specs.declared.status.Status.{Status}
 use Rattle.kernel_serve.specs.declared.status.Status.TheVariants as S
 
@@ -13,13 +20,39 @@ exit_status S.Usage = 2
 exit_status S.ReadFault = 3
 exit_status S.WriteFault = 4
 exit_status S.Memory = 5
+exit_status (S.Limit fault) = 6
+
+-- a name and a number, on a line
+abbrev pub with_number : List ℕ → ℕ → List ℕ
+with_number text n = text ++ (decimal n ++ codes "\n")
+
+unfoldable pub lex_text : LexFault → List ℕ
+lex_text (L.BadByte at) = with_number (codes "refused: lex BadByte ") at
+lex_text (L.OpenComment at) = with_number (codes "refused: lex OpenComment ") at
+lex_text (L.LiteralTooWide at) = with_number (codes "refused: lex LiteralTooWide ") at
+lex_text (L.Directive line) = with_number (codes "refused: lex Directive ") line.0
+lex_text (L.NameTooLong at) = with_number (codes "refused: lex NameTooLong ") at
+lex_text L.Memory = codes "out of memory\n"
+
+unfoldable pub parse_text : ParseFault → List ℕ
+parse_text (P.NotC at) = with_number (codes "refused: parse NotC ") at
+parse_text (P.Unsupported word at) = codes "refused: parse Unsupported " ++ (word ++ with_number (codes " ") at)
+parse_text (P.TooDeep at) = with_number (codes "refused: parse TooDeep ") at
+parse_text P.Memory = codes "out of memory\n"
+
+unfoldable pub limit_text : LimitFault → List ℕ
+limit_text (Limit.FileTooLong count) = with_number (codes "limit: FileTooLong ") count
+limit_text (Limit.ScriptTooLong count) = with_number (codes "limit: ScriptTooLong ") count
 
 -- the line that the program writes to standard error; none where all went well
 abbrev pub fault_text : Status → List ℕ
 fault_text S.Done = []
+fault_text (S.Refused (Fault.Lex fault)) = lex_text fault
+fault_text (S.Refused (Fault.Parse fault)) = parse_text fault
 fault_text (S.Refused (Fault.Unbuilt Input.File)) = codes "refused: file Unbuilt\n"
 fault_text (S.Refused (Fault.Unbuilt Input.Script)) = codes "refused: script Unbuilt\n"
 fault_text S.Usage = codes "usage\n"
 fault_text S.ReadFault = codes "read fault\n"
 fault_text S.WriteFault = codes "write fault\n"
 fault_text S.Memory = codes "out of memory\n"
+fault_text (S.Limit fault) = limit_text fault

@@ -8,13 +8,13 @@ ghost use Rattle.kernel_serve.specs.Headline.{Complete, Outcome, Says, Unwritten
 ghost use Rattle.kernel_serve.specs.Stages.{AtFile, history_of, report_of};
 ghost use Rattle.kernel_serve.specs.Told.{WhereTold};
 ghost use Rattle.kernel_serve.specs.Words.{report_command};
-ghost use Rattle.kernel_serve.specs.inner.Steps.{IsStop, StopsAtFile, command_of};
+ghost use Rattle.kernel_serve.specs.inner.Steps.{IsStop, OnlyReport, StopsAtFile, command_of};
 
 use crate::inputs::{changes_in, tree_of};
 use crate::status::Status;
 use crate::words::{Command, report_command};
 use c_first_runs::program_verdicts_are_true;
-use c_front::{one_tree, table};
+use c_front::table;
 use c_ir::PropTable;
 use fc_outside::{Shelf, Sink, WriteFault, write_all};
 use param_book::opening;
@@ -30,8 +30,10 @@ const MAIN: u32 = 0;
 /// (this project's own). FILE may be empty, but is no option, which has two bytes or more and begins with
 /// `-`; EVENTS isn't empty and doesn't begin with `-`. Other words are Usage, and then nothing is read.
 ///
-/// The file is read first, and refused where it is no program (`c_front::unit`). Else the script is read, and
-/// refused where it isn't one of at most 65,536 bytes whose lines are each blank or ask for a change that is
+/// The file is read first. It is refused at the first of these stages that it doesn't pass: it has at most
+/// 4,194,304 bytes (Limit); it has tokens of C (`c_lex::tokens`); they are a text of C (`c_parse::parse`); it is
+/// a program of the small language that is built (`c_front::unit`). Else the script is read, and refused where
+/// it has more than 16,777,216 bytes (Limit), or where its lines aren't each blank or ask for a change that is
 /// allowed:
 ///
 /// - `{"register":NAME,"correctness":[]}`, where no emitter has the name and there are fewer than 256;
@@ -67,7 +69,6 @@ where
     ensures never_fails { F.never_fails shelf.new ≡ F.never_fails shelf.old }
 {
     program_verdicts_are_true();
-    one_tree();
     let Some(command) = report_command(words) else {
         return Status::Usage;
     };
@@ -86,6 +87,7 @@ fn prepared<F: Shelf>(alloc: Global, shelf: &mut F, command: Command) -> Result<
 where
     ensures text { IfSome (F.files shelf.old) (λ files. IfOk result (λ text. AtFile files (command_of command.entry) Status.Done text.items)) }
     ensures stops { IfSome (F.files shelf.old) (λ files. IfErr result (StopsAtFile files (command_of command.entry))) }
+    ensures only { IfSome (F.files shelf.old) (λ files. OnlyReport files (command_of command.entry) result) }
     ensures ends { IfErr result IsStop }
     ensures asked { AsksFiles (F.files shelf.old) (F.asked shelf.old) (F.asked shelf.new) (command_of command.entry) }
     ensures read { IsErrOf result Status.ReadFault → Rose (F.faults shelf.old) (F.faults shelf.new) }

@@ -5,43 +5,43 @@ ghost use Rattle.std.specs.Result.{IsErrOf};
 ghost use Rattle.c_front.specs.Rows.{rows_of};
 ghost use Rattle.fc_outside.specs.Causes.{Rose};
 ghost use Rattle.fc_outside.specs.Contents.{told_contents};
-ghost use Rattle.kernel_serve.specs.Asked.{ReadsOne};
+ghost use Rattle.kernel_serve.specs.Asked.{ReadsFile, ReadsScript};
 ghost use Rattle.kernel_serve.specs.Script.{changes_of, lines_of, with_lines};
-ghost use Rattle.kernel_serve.specs.inner.Steps.{GivesChanges, IsStop, IsTree, UnlessReadFault};
+ghost use Rattle.kernel_serve.specs.inner.Steps.{GivesChanges, IsFileAnswer, IsScriptAnswer, IsStop, UnlessReadFault};
 
 use crate::accepted::Accepted;
+use crate::front::{MOST_FILE, unit_in};
 use crate::lines::first_line;
-use crate::status::{FrontFault, Input, Status};
-use c_front::{MOST_BYTES, Unit, UnitFault, unit};
+use crate::status::{LimitFault, Status};
+use c_front::Unit;
 use c_ir::PropTable;
 use fc_outside::{ReadError, Shelf, read_all};
 use status_history::Changes;
 use std::alloc::Global;
 
-/// The most bytes of a file or a script; one more is read, to tell a longer one.
-const LIMIT: usize = MOST_BYTES;
+/// The most bytes of a script.
+const MOST_SCRIPT: usize = 16_777_216;
 
-/// The tree of the named file; refused where its bytes are no program.
+/// The program of the named file; refused where its bytes are none.
 pub(crate) fn tree_of<F: Shelf>(alloc: Global, shelf: &mut F, name: &str) -> Result<Unit, Status>
 where
-    ensures told { IfSome (told_contents name.now (F.files shelf.old)) (λ bytes. UnlessReadFault result (IsTree bytes result)) }
+    ensures told { IfSome (told_contents name.now (F.files shelf.old)) (λ bytes. UnlessReadFault result (IsFileAnswer bytes result)) }
     ensures stops { IfErr result IsStop }
     ensures fits { IfOk result (λ u. length (rows_of u) ≤ 65536) }
-    ensures asked { ReadsOne name.now (F.asked shelf.old) (F.asked shelf.new) }
+    ensures asked { ReadsFile name.now (F.asked shelf.old) (F.asked shelf.new) }
     ensures files { F.files shelf.new ≡ F.files shelf.old }
     ensures never_fails { F.never_fails shelf.new ≡ F.never_fails shelf.old }
     ensures later { F.faults shelf.old ≤ F.faults shelf.new }
     ensures fault { IsErrOf result Status.ReadFault → Rose (F.faults shelf.old) (F.faults shelf.new) }
 {
-    let bytes = match read_all(alloc, shelf, name, LIMIT) {
+    let bytes = match read_all(alloc, shelf, name, MOST_FILE) {
         Ok(bytes) => bytes,
         Err(ReadError::Fault) => return Err(Status::ReadFault),
         Err(ReadError::Memory) => return Err(Status::Memory),
     };
-    match unit(alloc, bytes.as_slice()) {
+    match unit_in(alloc, bytes.as_slice()) {
         Ok(unit) => Ok(unit),
-        Err(UnitFault::Refused) => Err(Status::Refused(FrontFault::Unbuilt(Input::File))),
-        Err(UnitFault::Memory) => Err(Status::Memory),
+        Err(status) => Err(status),
     }
 }
 
@@ -53,31 +53,36 @@ pub(crate) fn changes_in<F: Shelf>(
     props: &PropTable,
 ) -> Result<Changes, Status>
 where
-    ensures told { IfSome (told_contents name.now (F.files shelf.old)) (λ bytes. UnlessReadFault result (GivesChanges (changes_of props.now bytes) result)) }
+    ensures told { IfSome (told_contents name.now (F.files shelf.old)) (λ bytes. UnlessReadFault result (IsScriptAnswer props.now bytes result)) }
     ensures stops { IfErr result IsStop }
-    ensures asked { ReadsOne name.now (F.asked shelf.old) (F.asked shelf.new) }
+    ensures asked { ReadsScript name.now (F.asked shelf.old) (F.asked shelf.new) }
     ensures files { F.files shelf.new ≡ F.files shelf.old }
     ensures never_fails { F.never_fails shelf.new ≡ F.never_fails shelf.old }
     ensures later { F.faults shelf.old ≤ F.faults shelf.new }
     ensures fault { IsErrOf result Status.ReadFault → Rose (F.faults shelf.old) (F.faults shelf.new) }
 {
-    let bytes = match read_all(alloc, shelf, name, LIMIT) {
+    let bytes = match read_all(alloc, shelf, name, MOST_SCRIPT) {
         Ok(bytes) => bytes,
         Err(ReadError::Fault) => return Err(Status::ReadFault),
         Err(ReadError::Memory) => return Err(Status::Memory),
     };
-    changes_of(alloc, props, bytes.as_slice())
+    match changes_of(alloc, props, bytes.as_slice()) {
+        Ok(changes) => Ok(changes),
+        Err(status) => Err(status),
+    }
 }
 
 /// The changes of a script.
 #[tactic(auto, unfolding(crate::specs::Script::changes_of))]
 fn changes_of(alloc: Global, props: &PropTable, text: &[u8]) -> Result<Changes, Status>
-    ensures { GivesChanges (changes_of props.now text.now) result }
+    ensures { IsScriptAnswer props.now text.now result }
 {
-    if text.len() <= MOST_BYTES {
-        changes_of_lines(alloc, props, text)
-    } else {
-        Err(Status::Refused(FrontFault::Unbuilt(Input::Script)))
+    if text.len() > MOST_SCRIPT {
+        return Err(Status::Limit(LimitFault::ScriptTooLong(16_777_217)));
+    }
+    match changes_of_lines(alloc, props, text) {
+        Ok(changes) => Ok(changes),
+        Err(status) => Err(status),
     }
 }
 

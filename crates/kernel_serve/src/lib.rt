@@ -3,13 +3,14 @@
 
 mod accepted;
 mod batch;
+mod front;
 mod inputs;
 mod lines;
 mod status;
 mod words;
 
 pub use batch::report_run;
-pub use status::{FrontFault, Input, Status, fault_line};
+pub use status::{FrontFault, Input, LimitFault, Status, fault_line};
 
 #[cfg(test)]
 mod tests;

@@ -1,11 +1,13 @@
 //! How a call ends.
 
 ghost use Rattle.std.specs.Prelude.{◌≡◌, IfOk};
-ghost use Rattle.kernel_serve.specs.Status.{exit_status, fault_text};
+ghost use Rattle.kernel_serve.specs.Status.{exit_status, fault_text, lex_text, parse_text, limit_text};
 
+use c_lex::LexFault;
+use c_parse::ParseFault;
 use std::alloc::{AllocError, Global};
 
-/// One of the two files that a call names.
+/// One of the two files that a command names.
 #[derive(Clone, Copy, Debug, PartialEq, Eq)]
 pub enum Input {
     /// The program's text.
@@ -15,20 +17,33 @@ pub enum Input {
 }
 
 /// Why a file that could be read is refused.
-#[derive(Clone, Copy, Debug, PartialEq, Eq)]
+#[derive(Debug, Drop)]
 pub enum FrontFault {
+    /// The file has no tokens of C (C11 6.4); the fault is never its Memory.
+    Lex(LexFault),
+    /// The file's tokens are no program (C11 6.5 to 6.9, cut down); the fault is never its Memory.
+    Parse(ParseFault),
     /// It isn't of the forms that are built so far.
     Unbuilt(Input),
 }
 
-/// How a call ended.
+/// Which limit an input passes, with the limit plus one.
 #[derive(Clone, Copy, Debug, PartialEq, Eq)]
+pub enum LimitFault {
+    /// The file has more than 4,194,304 bytes.
+    FileTooLong(u64),
+    /// The script has more than 16,777,216 bytes.
+    ScriptTooLong(u64),
+}
+
+/// How a call ended.
+#[derive(Debug, Drop)]
 pub enum Status {
     /// All was written.
     Done,
     /// A file was read and refused.
     Refused(FrontFault),
-    /// The words are no call.
+    /// The words are no command.
     Usage,
     /// A file couldn't be read.
     ReadFault,
@@ -36,13 +51,15 @@ pub enum Status {
     WriteFault,
     /// There was no memory left.
     Memory,
+    /// An input passes a limit.
+    Limit(LimitFault),
 }
 
 impl Status {
     /// The exit status of the program: 0 for Done, 1 for Refused, 2 for Usage, 3 for ReadFault, 4 for
-    /// WriteFault and 5 for Memory (this project's own).
-    pub fn exit_status(self) -> u8
-        ensures { result ≡ exit_status self }
+    /// WriteFault, 5 for Memory and 6 for Limit (this project's own).
+    pub fn exit_status(&self) -> u8
+        ensures { result ≡ exit_status self.now }
     {
         match self {
             Status::Done => 0,
@@ -51,27 +68,90 @@ impl Status {
             Status::ReadFault => 3,
             Status::WriteFault => 4,
             Status::Memory => 5,
-        }
-    }
-
-    fn fault_text(&self) -> &'static str
-        ensures { result.now ≡ fault_text self.now }
-    {
-        match self {
-            Status::Done => "",
-            Status::Refused(FrontFault::Unbuilt(Input::File)) => "refused: file Unbuilt\n",
-            Status::Refused(FrontFault::Unbuilt(Input::Script)) => "refused: script Unbuilt\n",
-            Status::Usage => "usage\n",
-            Status::ReadFault => "read fault\n",
-            Status::WriteFault => "write fault\n",
-            Status::Memory => "out of memory\n",
+            Status::Limit(_) => 6,
         }
     }
 }
 
-/// The line that says how a call ended, with its LF, in ASCII; no bytes for Done (this project's own).
+/// The line that says how a call ended, with its LF: a refusal with its stage, its name, the token's text where
+/// it keeps one, and its place, an offset from 0 or a line from 1; a limit with its name and the count. No bytes
+/// for Done (this project's own).
 pub fn fault_line(alloc: Global, status: &Status) -> Result<Vec<u8>, AllocError>
     ensures { IfOk result (λ line. line.items ≡ fault_text status.now) }
 {
-    Vec::from_slice(alloc, status.fault_text().as_bytes())
+    match status {
+        Status::Done => Ok(Vec::new(alloc)),
+        Status::Refused(FrontFault::Lex(fault)) => lex_line(alloc, fault),
+        Status::Refused(FrontFault::Parse(fault)) => parse_line(alloc, fault),
+        Status::Refused(FrontFault::Unbuilt(Input::File)) => {
+            line(alloc, "refused: file Unbuilt\n")
+        }
+        Status::Refused(FrontFault::Unbuilt(Input::Script)) => {
+            line(alloc, "refused: script Unbuilt\n")
+        }
+        Status::Usage => line(alloc, "usage\n"),
+        Status::ReadFault => line(alloc, "read fault\n"),
+        Status::WriteFault => line(alloc, "write fault\n"),
+        Status::Memory => line(alloc, "out of memory\n"),
+        Status::Limit(fault) => limit_line(alloc, *fault),
+    }
+}
+
+fn line(alloc: Global, text: &str) -> Result<Vec<u8>, AllocError>
+    ensures { IfOk result (λ line. line.items ≡ text.now) }
+{
+    Vec::from_slice(alloc, text.as_bytes())
+}
+
+#[tactic(auto, unfolding(crate::specs::Status::lex_text))]
+fn lex_line(alloc: Global, fault: &LexFault) -> Result<Vec<u8>, AllocError>
+    ensures { IfOk result (λ line. line.items ≡ lex_text fault.now) }
+{
+    let text = match fault {
+        LexFault::BadByte(at) => format!(in alloc; "refused: lex BadByte {at}\n")?,
+        LexFault::OpenComment(at) => format!(in alloc; "refused: lex OpenComment {at}\n")?,
+        LexFault::LiteralTooWide(at) => format!(in alloc; "refused: lex LiteralTooWide {at}\n")?,
+        LexFault::Directive(line) => {
+            let number = line.0;
+            format!(in alloc; "refused: lex Directive {number}\n")?
+        }
+        LexFault::NameTooLong(at) => format!(in alloc; "refused: lex NameTooLong {at}\n")?,
+        LexFault::Memory => return line(alloc, "out of memory\n"),
+    };
+    line(alloc, text.as_str())
+}
+
+#[tactic(auto, unfolding(crate::specs::Status::parse_text))]
+fn parse_line(alloc: Global, fault: &ParseFault) -> Result<Vec<u8>, AllocError>
+    ensures { IfOk result (λ line. line.items ≡ parse_text fault.now) }
+{
+    match fault {
+        ParseFault::NotC(at) => {
+            let text = format!(in alloc; "refused: parse NotC {at}\n")?;
+            line(alloc, text.as_str())
+        }
+        ParseFault::Unsupported(word, at) => {
+            let place = format!(in alloc; " {at}\n")?;
+            let mut text = line(alloc, "refused: parse Unsupported ")?;
+            text.extend_from_slice(word.as_slice())?;
+            text.extend_from_slice(place.as_bytes())?;
+            Ok(text)
+        }
+        ParseFault::TooDeep(at) => {
+            let text = format!(in alloc; "refused: parse TooDeep {at}\n")?;
+            line(alloc, text.as_str())
+        }
+        ParseFault::Memory => line(alloc, "out of memory\n"),
+    }
+}
+
+#[tactic(auto, unfolding(crate::specs::Status::limit_text))]
+fn limit_line(alloc: Global, fault: LimitFault) -> Result<Vec<u8>, AllocError>
+    ensures { IfOk result (λ line. line.items ≡ limit_text fault) }
+{
+    let text = match fault {
+        LimitFault::FileTooLong(count) => format!(in alloc; "limit: FileTooLong {count}\n")?,
+        LimitFault::ScriptTooLong(count) => format!(in alloc; "limit: ScriptTooLong {count}\n")?,
+    };
+    line(alloc, text.as_str())
 }

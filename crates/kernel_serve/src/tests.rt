@@ -19,9 +19,12 @@ Total 2
   Never_tried 2
 ";
 
-const NO_FILE: Status = Status::Refused(FrontFault::Unbuilt(Input::File));
+/// What standard error says of a call in which all went well.
+const DONE: &str = "";
 
-const NO_SCRIPT: Status = Status::Refused(FrontFault::Unbuilt(Input::Script));
+const NO_FILE: &str = "refused: file Unbuilt\n";
+
+const NO_SCRIPT: &str = "refused: script Unbuilt\n";
 
 /// How the outside behaves: a read or a write moves at most `above_one + 1` bytes, and these calls fail.
 #[derive(Clone, Copy)]
@@ -52,14 +55,14 @@ fn strings(alloc: Global, words: &[&str]) -> Result<Vec<String>, AllocError> {
     Ok(strings)
 }
 
-/// Whether the call that these words are, on a file `f.c` and a script `e` of these bytes, ends with this
-/// status and writes just this.
+/// Whether the call that these words are, on a file `f.c` and a script `e` of these bytes, ends with a status of
+/// this line and writes just this.
 fn answers(
     alloc: Global,
     words: &[&str],
     (file, script): (&[u8], &[u8]),
     outside: Outside,
-    status: Status,
+    line: &str,
     text: &[u8],
 ) -> Result<bool, AllocError> {
     let mut files = Items::new(alloc);
@@ -72,12 +75,13 @@ fn answers(
     let mut sink = MemSink::new(alloc, 2_000_000, most, failing_writes)?;
     let words = strings(alloc, words)?;
     let ended = report_run(alloc, words.as_slice(), &mut shelf, &mut sink);
-    Ok(ended == status && sink.held() == text)
+    let said = fault_line(alloc, &ended)?;
+    Ok(said.as_slice() == line.as_bytes() && sink.held() == text)
 }
 
 /// Whether a report on this file, with an empty script, is this text.
 fn reports(alloc: Global, file: &[u8], outside: Outside, text: &[u8]) -> Result<bool, AllocError> {
-    answers(alloc, &WORDS, (file, b""), outside, Status::Done, text)
+    answers(alloc, &WORDS, (file, b""), outside, DONE, text)
 }
 
 #[test]
@@ -107,37 +111,78 @@ fn reports_are_written(rt: HostRuntime) -> Result<(), Fail> {
     Ok(())
 }
 
+/// Files that are refused, with the line that says why.
+const REFUSED_FILES: [(&str, &str); 34] = [
+    // no tokens of C
+    (
+        "int main(void) { return 0; } @",
+        "refused: lex BadByte 29\n",
+    ),
+    ("int x; /* y", "refused: lex OpenComment 7\n"),
+    (
+        "int x = 170141183460469231731687303715884105728;",
+        "refused: lex LiteralTooWide 8\n",
+    ),
+    ("int x;\n#include <y>\n", "refused: lex Directive 2\n"),
+    // no text of C
+    (
+        "int main(void) { int x = 1 2; }",
+        "refused: parse NotC 27\n",
+    ),
+    ("int main(void) {", "refused: parse NotC 16\n"),
+    ("int main(void) { return 0; ", "refused: parse NotC 27\n"),
+    ("int main(void) { return 0 }", "refused: parse NotC 26\n"),
+    ("int main(void) { return 0; } x", "refused: parse NotC 29\n"),
+    (
+        "int main(void) { int int = 1; return 0; }",
+        "refused: parse NotC 25\n",
+    ),
+    (
+        "int main(void) { int while = 1; return 0; }",
+        "refused: parse NotC 21\n",
+    ),
+    ("int *p;", "refused: parse Unsupported * 4\n"),
+    (
+        "int main(void) { goto l; }",
+        "refused: parse Unsupported goto 17\n",
+    ),
+    // another program than those that are built
+    ("", NO_FILE),
+    ("int main(void) { }", NO_FILE),
+    ("int main(void) { return 0; return 1; }", NO_FILE),
+    ("int main() { return 0; }", NO_FILE),
+    ("int f(void) { return 0; }", NO_FILE),
+    (
+        "int main(void) { int x = 1; int x = 2; return x; }",
+        NO_FILE,
+    ),
+    ("int main(void) { x = 1; int x = 2; return x; }", NO_FILE),
+    ("int main(void) { int x = x; return x; }", NO_FILE),
+    ("int main(void) { return y; }", NO_FILE),
+    ("int main(void) { int x; return 0; }", NO_FILE),
+    ("int main(void) { return 01; }", NO_FILE),
+    ("int main(void) { return 2147483648; }", NO_FILE),
+    ("int main(void) { return -1; }", NO_FILE),
+    ("int main(void) { return 1 - 1; }", NO_FILE),
+    ("int main(void) {\treturn 0; }", NO_FILE),
+    ("int main(void) { /* */ return 0; }", NO_FILE),
+    ("int main(void) { //@ assert y == 1;\nreturn 0; }", NO_FILE),
+    (
+        "int main(void) { int x = 4;\n//@ assert x ==\n 4;\nreturn x; }",
+        NO_FILE,
+    ),
+    // The first stage that fails decides.
+    ("int *p; /*", "refused: lex OpenComment 8\n"),
+    ("int main(void) { return y; } x", "refused: parse NotC 29\n"),
+    ("int x = 1 2; @", "refused: lex BadByte 13\n"),
+];
+
 #[test]
 fn what_is_no_program_is_refused(rt: HostRuntime) -> Result<(), Fail> {
-    let files = [
-        "",
-        "int main(void) { }",
-        "int main(void) { return 0; ",
-        "int main(void) { return 0 }",
-        "int main(void) { return 0; } x",
-        "int main(void) { return 0; return 1; }",
-        "int main() { return 0; }",
-        "int f(void) { return 0; }",
-        "int main(void) { int int = 1; return 0; }",
-        "int main(void) { int while = 1; return 0; }",
-        "int main(void) { int x = 1; int x = 2; return x; }",
-        "int main(void) { x = 1; int x = 2; return x; }",
-        "int main(void) { int x = x; return x; }",
-        "int main(void) { return y; }",
-        "int main(void) { int x; return 0; }",
-        "int main(void) { return 01; }",
-        "int main(void) { return 2147483648; }",
-        "int main(void) { return -1; }",
-        "int main(void) { return 1 - 1; }",
-        "int main(void) {\treturn 0; }",
-        "int main(void) { /* */ return 0; }",
-        "int main(void) { //@ assert y == 1;\nreturn 0; }",
-        "int main(void) { int x = 4;\n//@ assert x ==\n 4;\nreturn x; }",
-    ];
-    for file in files {
+    for (file, line) in REFUSED_FILES {
         // The script isn't looked at.
         let inputs = (file.as_bytes(), b"x".as_slice());
-        let holds = answers(rt.alloc(), &WORDS, inputs, QUICK, NO_FILE, b"")?;
+        let holds = answers(rt.alloc(), &WORDS, inputs, QUICK, line, b"")?;
         assert!(rt; holds, "{file}");
     }
     Ok(())
@@ -157,12 +202,12 @@ fn blank_scripts_say_nothing(rt: HostRuntime) -> Result<(), Fail> {
     ];
     for (script, is_blank) in cases {
         let inputs = (EXAMPLE.as_bytes(), script.as_bytes());
-        let (status, text) = if is_blank {
-            (Status::Done, EXAMPLE_REPORT)
+        let (line, text) = if is_blank {
+            (DONE, EXAMPLE_REPORT)
         } else {
             (NO_SCRIPT, "")
         };
-        let holds = answers(rt.alloc(), &WORDS, inputs, QUICK, status, text.as_bytes())?;
+        let holds = answers(rt.alloc(), &WORDS, inputs, QUICK, line, text.as_bytes())?;
         assert!(rt; holds, "{script}");
     }
     Ok(())
@@ -188,7 +233,7 @@ fn words_are_four(rt: HostRuntime) -> Result<(), Fail> {
         &["report", "f.c", "-script", "e"],
     ];
     for words in refused {
-        let holds = answers(alloc, words, inputs, QUICK, Status::Usage, b"")?;
+        let holds = answers(alloc, words, inputs, QUICK, "usage\n", b"")?;
         assert!(rt; holds, "{words:?}");
     }
     // These name files that aren't there, which are empty.
@@ -212,21 +257,22 @@ fn padded(alloc: Global, text: &[u8], length: u32) -> Result<Vec<u8>, AllocError
 #[test]
 fn files_have_a_greatest_length(rt: HostRuntime) -> Result<(), Fail> {
     let alloc = rt.alloc();
-    let example = EXAMPLE.as_bytes();
-    let report = EXAMPLE_REPORT.as_bytes();
-    let file = padded(alloc, example, 65_536)?;
-    let script = padded(alloc, b"", 65_536)?;
-    let inputs = (file.as_slice(), script.as_slice());
-    let holds = answers(alloc, &WORDS, inputs, QUICK, Status::Done, report)?;
-    assert!(rt; holds, "both at the limit");
-    let long_file = padded(alloc, example, 65_537)?;
-    let inputs = (long_file.as_slice(), script.as_slice());
-    let holds = answers(alloc, &WORDS, inputs, QUICK, NO_FILE, b"")?;
-    assert!(rt; holds, "a long file");
-    let long_script = padded(alloc, b"", 65_537)?;
-    let inputs = (file.as_slice(), long_script.as_slice());
-    let holds = answers(alloc, &WORDS, inputs, QUICK, NO_SCRIPT, b"")?;
-    assert!(rt; holds, "a long script");
+    let report = EXAMPLE_REPORT;
+    // 65,536 bytes are the most of a program that is built.
+    let cases = [
+        (65_536, 16_777_216, DONE, report),
+        (65_536, 16_777_217, "limit: ScriptTooLong 16777217\n", ""),
+        (65_537, 16_777_217, NO_FILE, ""),
+        (4_194_304, 0, NO_FILE, ""),
+        (4_194_305, 0, "limit: FileTooLong 4194305\n", ""),
+    ];
+    for (file, script, line, text) in cases {
+        let file = padded(alloc, EXAMPLE.as_bytes(), file)?;
+        let script = padded(alloc, b"", script)?;
+        let inputs = (file.as_slice(), script.as_slice());
+        let holds = answers(alloc, &WORDS, inputs, QUICK, line, text.as_bytes())?;
+        assert!(rt; holds, "{line}");
+    }
     Ok(())
 }
 
@@ -251,7 +297,8 @@ fn names_have_a_greatest_length(rt: HostRuntime) -> Result<(), Fail> {
     assert!(rt; holds, "256 bytes");
     let file = named(alloc, 257)?;
     let inputs = (file.as_slice(), b"".as_slice());
-    let holds = answers(alloc, &WORDS, inputs, QUICK, NO_FILE, b"")?;
+    let line = "refused: lex NameTooLong 21\n";
+    let holds = answers(alloc, &WORDS, inputs, QUICK, line, b"")?;
     assert!(rt; holds, "257 bytes");
     Ok(())
 }
@@ -266,7 +313,7 @@ fn each_read_may_fail(rt: HostRuntime) -> Result<(), Fail> {
             failing_read: call,
             ..SLOW
         };
-        let holds = answers(rt.alloc(), &WORDS, inputs, outside, Status::ReadFault, b"")?;
+        let holds = answers(rt.alloc(), &WORDS, inputs, outside, "read fault\n", b"")?;
         assert!(rt; holds, "call {call}");
     }
     let outside = Outside {
@@ -274,7 +321,7 @@ fn each_read_may_fail(rt: HostRuntime) -> Result<(), Fail> {
         ..SLOW
     };
     let report = EXAMPLE_REPORT.as_bytes();
-    let holds = answers(rt.alloc(), &WORDS, inputs, outside, Status::Done, report)?;
+    let holds = answers(rt.alloc(), &WORDS, inputs, outside, DONE, report)?;
     assert!(rt; holds, "no call");
     Ok(())
 }
@@ -289,14 +336,7 @@ fn each_write_may_fail(rt: HostRuntime) -> Result<(), Fail> {
             failing_write: written as u64 + 1,
             ..SLOW
         };
-        let holds = answers(
-            rt.alloc(),
-            &WORDS,
-            inputs,
-            outside,
-            Status::WriteFault,
-            part,
-        )?;
+        let holds = answers(rt.alloc(), &WORDS, inputs, outside, "write fault\n", part)?;
         assert!(rt; holds, "after {written} bytes");
     }
     Ok(())
@@ -336,9 +376,9 @@ fn many_asserts(alloc: Global, asserts: u16) -> Result<(Vec<u8>, Vec<u8>), Alloc
 
 #[test]
 fn large_files_are_reported(rt: HostRuntime) -> Result<(), Fail> {
-    let (file, report) = long_sum(rt.alloc(), 30_000)?;
+    let (file, report) = long_sum(rt.alloc(), 10_000)?;
     let holds = reports(rt.alloc(), file.as_slice(), QUICK, report.as_slice())?;
-    assert!(rt; holds, "a sum of 30,000 items");
+    assert!(rt; holds, "a sum of 10,000 items");
     let (file, report) = many_asserts(rt.alloc(), 3_000)?;
     let holds = reports(rt.alloc(), file.as_slice(), QUICK, report.as_slice())?;
     assert!(rt; holds, "3,000 asserts");
@@ -348,18 +388,31 @@ fn large_files_are_reported(rt: HostRuntime) -> Result<(), Fail> {
 #[test]
 fn statuses_are_told(rt: HostRuntime) -> Result<(), Fail> {
     let cases = [
-        (Status::Done, 0, ""),
-        (NO_FILE, 1, "refused: file Unbuilt\n"),
-        (NO_SCRIPT, 1, "refused: script Unbuilt\n"),
+        (Status::Done, 0, DONE),
+        (
+            Status::Refused(FrontFault::Unbuilt(Input::File)),
+            1,
+            NO_FILE,
+        ),
+        (
+            Status::Refused(FrontFault::Unbuilt(Input::Script)),
+            1,
+            NO_SCRIPT,
+        ),
         (Status::Usage, 2, "usage\n"),
         (Status::ReadFault, 3, "read fault\n"),
         (Status::WriteFault, 4, "write fault\n"),
         (Status::Memory, 5, "out of memory\n"),
+        (
+            Status::Limit(LimitFault::FileTooLong(4_194_305)),
+            6,
+            "limit: FileTooLong 4194305\n",
+        ),
     ];
     for (status, number, text) in cases {
         let line = fault_line(rt.alloc(), &status)?;
         let holds = status.exit_status() == number && line.as_slice() == text.as_bytes();
-        assert!(rt; holds, "{status:?}");
+        assert!(rt; holds, "{text}");
     }
     Ok(())
 }

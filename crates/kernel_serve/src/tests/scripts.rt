@@ -1,7 +1,6 @@
 //! Reports on two asserts, by what scripts say of them.
 
-use super::{NO_SCRIPT, QUICK, WORDS, answers};
-use crate::Status;
+use super::{DONE, NO_SCRIPT, QUICK, WORDS, answers};
 use std::alloc::{AllocError, Global};
 use std::test::Fail;
 
@@ -72,7 +71,7 @@ fn script_of(alloc: Global, said: &[Said]) -> Result<String, AllocError> {
 /// Whether the report on the ring's program with this script is this text.
 fn reports(alloc: Global, script: &str, text: &str) -> Result<bool, AllocError> {
     let inputs = (RING.as_bytes(), script.as_bytes());
-    answers(alloc, &WORDS, inputs, QUICK, Status::Done, text.as_bytes())
+    answers(alloc, &WORDS, inputs, QUICK, DONE, text.as_bytes())
 }
 
 /// Whether a script is refused.

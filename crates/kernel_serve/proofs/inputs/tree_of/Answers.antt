@@ -1,10 +1,11 @@
-use Rattle.kernel_serve.proofs.Whole.{tree_of_all, no_tree_of_all, refused_all}
+use Rattle.std.proofs.Common.{Ok, Err}
+use Rattle.kernel_serve.proofs.Whole.{file_of_all}
 use Rattle.kernel_serve.proofs.inputs.tree_of.Goals as goal
 
-pub returns-in-Ok-unit-clause-told : goal.returns-in-Ok-unit-clause-told
-returns-in-Ok-unit-clause-told g c =
-    tree_of_all _ _ _ c.in-Ok.ensures.bytes (rw c.as_slice.ensures.value at c.in-Ok-unit.ensures.found)
+pub returns-in-Ok-unit_in-clause-told : goal.returns-in-Ok-unit_in-clause-told
+returns-in-Ok-unit_in-clause-told g c =
+    file_of_all _ _ (Ok c.in-Ok-unit_in.unit) c.in-Ok.ensures.bytes (rw c.as_slice.ensures.value at c.in-Ok-unit_in.ensures.answer)
 
-pub returns-in-Err-Refused-clause-told : goal.returns-in-Err-Refused-clause-told
-returns-in-Err-Refused-clause-told g c =
-    refused_all _ _ (no_tree_of_all _ _ c.in-Ok.ensures.bytes (rw (c.in-Err-Refused.field-0-is, c.as_slice.ensures.value) at c.in-Err-Refused.ensures.none))
+pub returns-clause-told : goal.returns-clause-told
+returns-clause-told g c =
+    file_of_all _ _ (Err c.in-Err.status) c.in-Ok.ensures.bytes (rw c.as_slice.ensures.value at c.in-Err.ensures.answer)
