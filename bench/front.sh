@@ -1,7 +1,8 @@
 #!/bin/sh
 # Times the built program on C texts of 1, 2 and 4 MiB that its tokens and grammar take, full of asserts, of
-# expressions or of declarations, up to the refusal as a program that isn't built: the least processor seconds of
-# five runs, the greatest peak memory, and the ratio of the time to that of the size before. To be run by hand.
+# expressions or of declarations, up to where they end: all are typed, then the first two are refused as a program
+# that isn't built, and the third has too many cells, one for each line. The least processor seconds of five runs,
+# the greatest peak memory, and the ratio of the time to that of the size before. To be run by hand.
 # Expected at 4 MiB: under 2 s and 1 GiB, and no ratio over 2.5.
 # The program is proved and built by `rt ci`, or by `rt run` in crates/fc_main.
 root=$(CDPATH='' cd -- "$(dirname -- "$0")/.." && pwd) || exit 1
@@ -39,30 +40,38 @@ def text_of(form, size):
     return b"".join([*parts, tail, b" " * room])
 
 
-def run(program, folder):
-    """Processor seconds and peak KiB of one run."""
+def end_of(form, text):
+    """The exit status of a run on a text, and what the program says."""
+    if form == "declarations":
+        return 6, b"limit: TooManyCells %d\n" % text.count(b"\n")
+    return 1, b"refused: file Unbuilt\n"
+
+
+def run(program, folder, end):
+    """Processor seconds and peak KiB of one run, which ends so."""
     words = [program, "report", "file.c", "--script", "script"]
     process = subprocess.Popen(words, cwd=folder, stdout=subprocess.DEVNULL, stderr=subprocess.PIPE)
     said = process.stderr.read()
     _, status, usage = os.wait4(process.pid, 0)
-    if os.waitstatus_to_exitcode(status) != 1 or said != b"refused: file Unbuilt\n":
+    if (os.waitstatus_to_exitcode(status), said) != end:
         sys.exit(f"the program ended with wait status {status} and {said}")
     return usage.ru_utime + usage.ru_stime, usage.ru_maxrss
 
 
-def measure(program, text):
+def measure(program, text, end):
     with tempfile.TemporaryDirectory() as folder:
         for name, held in (("file.c", text), ("script", b"")):
             with open(os.path.join(folder, name), "wb") as out:
                 out.write(held)
-        runs = [run(program, folder) for _ in range(RUNS)]
+        runs = [run(program, folder, end) for _ in range(RUNS)]
     return min(seconds for seconds, _ in runs), max(peak for _, peak in runs)
 
 
 for form in FORMS:
     last = None
     for mib in (1, 2, 4):
-        seconds, peak = measure(sys.argv[1], text_of(form, mib * MIB))
+        text = text_of(form, mib * MIB)
+        seconds, peak = measure(sys.argv[1], text, end_of(form, text))
         ratio = "" if last is None else f", ratio {seconds / last:.2f}"
         print(f"{form}, {mib} MiB: {seconds:.2f} s, {peak / 1024:.0f} MiB{ratio}", flush=True)
         last = seconds

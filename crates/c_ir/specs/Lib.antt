@@ -1,4 +1,12 @@
+pub mod Calls
+pub mod Checks
+pub mod Formed
 pub mod Kinds
+pub mod Numbers
 pub mod Props
+pub mod Scopes
+pub mod Sited
 pub mod Table
+pub mod Trees
+pub mod Types
 pub mod inner

@@ -1,8 +1,9 @@
 -- The tokens that pieces give stand in the text one after the other.
-use Rattle.std.proofs.Common.{◌≡◌, ◌⊎◌, inl, inr, ℕ, ◌+◌, ◌-◌, ◌≤◌, ◌++◌, ◌∷◌, [], List, Bool, true, false, Option, Some, None, refl, ap, sym, ◌∙◌, subst, length, take, drop, append_assoc, append-nil, length-append, arith}
+use Rattle.std.proofs.Common.{◌≡◌, ◌⊎◌, inl, inr, ℕ, ◌+◌, ◌-◌, ◌≤◌, ◌<◌, ◌++◌, ◌∷◌, [], List, Bool, true, false, Option, Some, None, refl, ap, sym, ◌∙◌, subst, length, take, drop, append_assoc, append-nil, length-append, arith}
 use Rattle.std.specs.Prelude.{◌==◌, ◌&&◌, ◌||◌, not, nat_le, nat_lt, if◌then◌else◌, slice_range, codes}
 use Rattle.std.specs.List.{list_all}
 use Rattle.std.proofs.lemmas.Bool.Decides.{nat_tests}
+use Rattle.std.proofs.lemmas.List.{length-take}
 use Rattle.std.proofs.Math.Seq.{drop-append_seam, take-append_seam}
 use Rattle.c_lex.specs.declared.token.Punct.{Punct}
 use Rattle.c_lex.specs.declared.token.Token.{Token}
@@ -10,7 +11,7 @@ use Rattle.c_lex.specs.declared.token.TokenKind.{TokenKind}
 use Rattle.c_lex.specs.declared.token.TokenKind.TheVariants as K
 use Rattle.c_lex.specs.Bytes.{begins_with, begins, line_ends}
 use Rattle.c_lex.specs.Spellings.{Row, Has, puncts, begins_word, goes_on, is_word}
-use Rattle.c_lex.specs.Facts.{IsTextOf, IsTokenOf, AreTokensOf, are_noted_after, are_noted}
+use Rattle.c_lex.specs.Facts.{text_of, IsTextOf, IsTokenOf, AreTokensOf, are_noted_after, are_noted}
 use Rattle.c_lex.specs.Tokens.{Spot, start, Spells, IsNote, Goes, IsEnd, Reaches, tokens_of, Lexes, past, in_note, past_note, token_at, close_len}
 use Rattle.c_lex.specs.Tokens as T
 use Rattle.c_lex.proofs.Runs.{both, both_are, some_one, begins-split}
@@ -218,3 +219,46 @@ noted_from s (Some t ∷ ps) e r h = noted_more s t r.0 (tokens_of ps) r.1 (note
 pub noted : (bytes : List ℕ) (ts : List Token) → Lexes bytes ts → are_noted false ts ≡ true
 unfolding Lexes
 noted bytes ts (ps, e, r, h, i) = subst (λ (x : List Token). are_noted false x ≡ true) i (noted_from (start bytes) ps e r h)
+
+-- How many tokens there are.
+
+-- A note's end may have no bytes, while its opening has three. So inside a note the bound is one more.
+abbrev owed : Bool → ℕ
+owed true = 1
+owed false = 0
+
+has_bytes : (k : TokenKind) (from to : ℕ) → (k ≡ K.NoteTo → ⊥) → (from < to) ⊎ (k ≡ K.NoteTo) → from < to
+has_bytes k from to other (inl l) = l
+has_bytes k from to other (inr i) = absurd (other i)
+
+opening_bytes : (bytes : List ℕ) (t : Token) → IsTextOf K.NoteFrom (text_of bytes t) → t.span.from + 3 ≤ t.span.to
+opening_bytes bytes t x = omega (arith, three x, length-take (t.span.to - t.span.from) (drop t.span.from bytes))
+  where
+    three : IsTextOf K.NoteFrom (text_of bytes t) → length (text_of bytes t) ≡ 3
+    three (inl e) = ap length e
+    three (inr e) = ap length e
+
+-- a token, before others that stand after it
+one_more : (bytes : List ℕ) (note : Bool) (t : Token) (k : TokenKind) (n : ℕ) (f : Bool → Bool)
+    → (t.span.from < t.span.to) ⊎ (k ≡ K.NoteTo) → IsTextOf k (text_of bytes t) → t.span.from ≤ t.span.to → are_noted_after note k f ≡ true
+    → ((m : Bool) → f m ≡ true → t.span.to + n ≤ length bytes + owed m) → t.span.from + (1 + n) ≤ length bytes + owed note
+one_more bytes true t K.NoteFrom n f s x o e r = absurd (cc)
+one_more bytes false t K.NoteFrom n f s x o e r = omega (arith, r true e, opening_bytes bytes t x)
+one_more bytes true t K.NoteTo n f s x o e r = omega (arith, r false e, o)
+one_more bytes false t K.NoteTo n f s x o e r = absurd (cc)
+one_more bytes note t (K.Word w) n f s x o e r = omega (arith, r note e, has_bytes (K.Word w) t.span.from t.span.to (λ i. absurd (cc)) s)
+one_more bytes note t (K.Number w) n f s x o e r = omega (arith, r note e, has_bytes (K.Number w) t.span.from t.span.to (λ i. absurd (cc)) s)
+one_more bytes note t (K.Char c) n f s x o e r = omega (arith, r note e, has_bytes (K.Char c) t.span.from t.span.to (λ i. absurd (cc)) s)
+one_more bytes note t K.Text n f s x o e r = omega (arith, r note e, has_bytes K.Text t.span.from t.span.to (λ i. absurd (cc)) s)
+one_more bytes note t (K.Punct p) n f s x o e r = omega (arith, r note e, has_bytes (K.Punct p) t.span.from t.span.to (λ i. absurd (cc)) s)
+
+few_from : (bytes : List ℕ) (note : Bool) (from : ℕ) (ts : List Token) → AreTokensOf bytes from ts → are_noted note ts ≡ true → from ≤ length bytes
+    → from + length ts ≤ length bytes + owed note
+few_from bytes note from [] h e l = omega (arith, l)
+few_from bytes note from (t ∷ ts) h e l =
+    let more = one_more bytes note t t.kind (length ts) (λ m. are_noted m ts) h.0.some h.0.text h.0.in_order e
+    (λ m i. few_from bytes m t.span.to ts h.2 i h.0.within) in
+    omega (arith, h.1, more)
+
+pub few : (bytes : List ℕ) (ts : List Token) → AreTokensOf bytes 0 ts → are_noted false ts ≡ true → length ts ≤ length bytes
+few bytes ts h e = omega (arith, few_from bytes false 0 ts h e (omega arith))

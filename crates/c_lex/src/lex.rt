@@ -195,6 +195,7 @@ pub fn tokens(alloc: Global, bytes: &[u8]) -> Result<Tokens, LexFault>
     ensures only { IfOk result (AreOnly bytes.now) }
     ensures in_place { IfOk result (AreTokensOf bytes.now 0) }
     ensures noted { IfOk result (λ tokens. are_noted false tokens ≡ true) }
+    ensures few { IfOk result (λ tokens. length tokens ≤ length bytes.now) }
     ensures fault { IfErr result (UnlessMemory (Stuck bytes.now)) }
     ensures only_fault { IfErr result (UnlessMemory (IsOnlyFault bytes.now)) }
 {

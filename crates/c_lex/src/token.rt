@@ -245,9 +245,11 @@ impl Token {
     }
 }
 
-/// Where the tokens of a text stand. The function does nothing: its contract is the law.
+/// Where the tokens of a text stand, and that there are at most as many as bytes. The function does nothing:
+/// its contract is the law.
 pub fn tokens_are_in_place(bytes: &[u8], tokens: &[Token])
     requires { Lexes bytes.now tokens.now }
     ensures in_place { AreTokensOf bytes.now 0 tokens.now }
     ensures noted { are_noted false tokens.now ≡ true }
+    ensures few { length tokens.now ≤ length bytes.now }
 {}

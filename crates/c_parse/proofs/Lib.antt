@@ -6,3 +6,4 @@ pub mod Loops
 pub mod Lists
 pub mod Notes
 pub mod Programs
+pub mod Weights

@@ -7,6 +7,7 @@ mod class;
 mod declare;
 mod expr;
 mod fault;
+mod law;
 mod level;
 mod look;
 mod note;
@@ -20,6 +21,7 @@ mod word;
 
 pub use class::Class;
 pub use fault::Fault;
+pub use law::trees_are_small;
 pub use level::Level;
 pub use part::{
     Braced, Bracketed, DeclrRest, Ended, Ending, Governed, Head, Named, Part, Placed, Started,

@@ -218,12 +218,12 @@ fn check(rt: &impl Abort, alloc: Global, rows: &[(&str, &str)]) -> Result<(), Fa
     Ok(())
 }
 
-/// `count` times `before`, then `middle`, then `count` times `behind`.
+/// `count` times `before`, then `middle`, then `count` times `after`.
 fn nested(
     alloc: Global,
     before: &str,
     middle: &str,
-    behind: &str,
+    after: &str,
     count: u8,
 ) -> Result<String, AllocError> {
     let mut out = String::new(alloc);
@@ -233,7 +233,7 @@ fn nested(
     }
     out.push_str(middle)?;
     for _ in 0..count {
-        out.push_str(behind)?;
+        out.push_str(after)?;
     }
     out.push_str(";")?;
     Ok(out)
@@ -377,8 +377,8 @@ fn nestings(rt: HostRuntime) -> Result<(), Fail> {
         ("(int)", "a", "", 201, "TooDeep 1008"),
         ("-(", "a", ")", 101, "TooDeep 208"),
     ];
-    for (before, middle, behind, count, want) in rows {
-        let text = nested(alloc, before, middle, behind, count)?;
+    for (before, middle, after, count, want) in rows {
+        let text = nested(alloc, before, middle, after, count)?;
         let found = answer(alloc, text.as_str())?;
         let is_tree = want == "a" || want == "tree";
         assert!(rt; is_tree || found.as_str() == want, "{before}: {found}");

@@ -1,7 +1,8 @@
 //! Texts of C, and where others stop.
 
-ghost use Rattle.std.specs.Prelude.{◌≡◌, ◌<◌, ◌-◌, IfOk, IfErr, List, length, drop};
+ghost use Rattle.std.specs.Prelude.{◌≡◌, ◌<◌, ◌≤◌, ◌-◌, IfOk, IfErr, List, length, drop};
 ghost use Rattle.c_ast.specs.declared.unit.Item.{Item};
+ghost use Rattle.c_ast.specs.Weight.{weight_of_unit};
 ghost use Rattle.c_parse.specs.Program.{IsUnit, IsOnly, IsFault, Refuses, unsupported_keyword, unsupported_punct, unsupported_kind, is_unsupported, place_at};
 
 use crate::fault::Fault;
@@ -116,6 +117,7 @@ fn last(tokens: &[Token], count: usize) -> &[Token]
 pub fn parse(alloc: Global, bytes: &[u8], tokens: &[Token]) -> Result<Unit, ParseFault>
     requires { length bytes.now < 4294967296 }
     ensures found { IfOk result (λ u. IsUnit bytes.now u.items tokens.now) }
+    ensures size { IfOk result (λ u. weight_of_unit u ≤ length tokens.now) }
     ensures only { (is : List Item) → IsUnit bytes.now is tokens.now → IsOnly is result }
     ensures fault { IfErr result (IsFault bytes.now tokens.now) }
 {

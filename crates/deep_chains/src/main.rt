@@ -1,6 +1,6 @@
 //! Answers `report` on the longest files of C whose trees are as deep as the file is long: for each form of such
-//! a chain a whole file, which is another program than those that are built, and one without its last token,
-//! which is no text of C.
+//! a chain a whole file, which is typed and then refused, since it defines no `main` or has a breach, and one
+//! without its last token, which is no text of C.
 #![tactic(auto)]
 
 use core::thread::Anything;

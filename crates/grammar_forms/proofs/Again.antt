@@ -134,7 +134,7 @@ module _ {C S T A : Type 0} (g : Grammar C S T A) (same_is : (a b : C) → g.sam
         ]
     starts _ _ d ts rest h = absurd h
 
-    -- What can't go on behind a form can't go on behind a tree of it.
+    -- What can't go on after a form can't go on after a tree of it.
     pub closed : (f : Form C S) (t : Tree T) (d : ℕ) (ts rest : List T) (c : C) → Derives g d f t ts rest → one_of g.same (mores g f) c ≡ false → is_open_to g f t c ≡ false
     closed Empty Bare d ts rest c h e = refl
     closed (OneOf cs) (Leaf t) d ts rest c h e = refl

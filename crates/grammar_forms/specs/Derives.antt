@@ -61,7 +61,7 @@ module _ {C S T A : Type 0} (g : Grammar C S T A) where
   value (Extended f h) (OnRight a) = Second (value f a)
   value _ _ = NoPart
 
-  -- a token of this class could go on behind the tree
+  -- a token of this class could go on after the tree
   abbrev pub is_open_to : Form C S → Tree T → C → Bool
   is_open_to (Rule s) (Node a) c = is_open_to (g.rule s) a c
   is_open_to (Then f h) (Both a b) c = is_open_to h b c || (is_bare b && is_open_to f a c)

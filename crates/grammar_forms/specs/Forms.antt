@@ -61,7 +61,7 @@ abbrev pub most_nested : ℕ
 most_nested = 200
 
 module _ {C S T A : Type 0} (g : Grammar C S T A) where
-  -- whether a form may be empty, what begins it, and what can go on behind it
+  -- whether a form may be empty, what begins it, and what can go on after it
   abbrev pub null : Form C S → Bool
   null Empty = true
   null (OneOf cs) = false

@@ -1,4 +1,5 @@
 pub mod Forms
 pub mod Derives
 pub mod Sound
+pub mod Weights
 pub mod inner

@@ -1,10 +1,12 @@
-//! The laws of readings. Each is a function that does nothing and whose clause the check proves, for all
-//! tables that pass the computed test (`IsSound`) and compare classes exactly (`IsExact`).
+//! The laws of readings and of weights. Each is a function that does nothing and whose clause the check
+//! proves: those of readings for all tables that pass the computed test (`IsSound`) and compare classes
+//! exactly (`IsExact`), that of weights for all tables.
 
-ghost use Rattle.std.specs.Prelude.{◌≡◌, ℕ, List};
-ghost use Rattle.grammar_forms.specs.Forms.{Grammar, Parts};
+ghost use Rattle.std.specs.Prelude.{◌≡◌, ◌+◌, ◌≤◌, ℕ, List, length};
+ghost use Rattle.grammar_forms.specs.Forms.{Grammar, Parts, Made};
 ghost use Rattle.grammar_forms.specs.Derives.{Cause, IsText, StopsAt};
 ghost use Rattle.grammar_forms.specs.Sound.{IsSound, IsExact};
+ghost use Rattle.grammar_forms.specs.Weights.{IsLight};
 ghost use Rattle.grammar_forms.specs.inner.Reading.{Read, Stop, read_rule};
 
 /// What is read is a text of the production, and the next token can't go on with it.
@@ -56,4 +58,12 @@ pub fn stop_or_derivation<C, S, T, A>()
     ensures { (g : Grammar C S T A) → IsSound g → IsExact g →
         (s : S) (d : ℕ) (ts : List T) (v : Parts T A) (rest : List T)
         → (w : Cause) (n : ℕ) → IsText g d s ts v rest → StopsAt g d s ts w n → ⊥ }
+{}
+
+/// Where no production makes of its parts a value that weighs more than they count, a value weighs at most
+/// the number of its tokens.
+pub fn weight_within_tokens<C, S, T, A>()
+    ensures { (g : Grammar C S T A) (w : S → A → ℕ) → IsLight g w →
+        (s : S) (d : ℕ) (ts : List T) (a : A) (rest : List T)
+        → IsText g d s ts (Made a) rest → w s a + length rest ≤ length ts }
 {}

@@ -7,5 +7,5 @@ mod laws;
 
 pub use laws::{
     derivation_is_read, one_derivation, one_stop, reading_derives, reading_stops, stop_is_read,
-    stop_or_derivation,
+    stop_or_derivation, weight_within_tokens,
 };

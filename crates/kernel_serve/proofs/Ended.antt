@@ -11,12 +11,14 @@ use Rattle.c_first_runs.specs.Run.{runs_of}
 use Rattle.c_first_runs.specs.RunLaws.{ProgramVerdictsAreTrue}
 use Rattle.fc_outside.specs.Contents.{contents_of}
 use Rattle.status_history.specs.declared.history.Change.{Change}
+use Rattle.c_types.specs.declared.fault.TypeFault.{TypeFault}
+use Rattle.c_types.specs.declared.fault.TypeFault.TheVariants as T
 use Rattle.kernel_serve.specs.declared.status.Status.{Status}
 use Rattle.kernel_serve.specs.declared.status.Status.TheVariants as S
 use Rattle.kernel_serve.specs.Headline.{Complete, Outcome, Says, TrueReport}
 use Rattle.kernel_serve.specs.Limits.{most_script}
 use Rattle.kernel_serve.specs.Script.{changes_of}
-use Rattle.kernel_serve.specs.Stages.{AtChanges, AtFile, AtScript, AtWords, IsRead, Works, history_of, report_of}
+use Rattle.kernel_serve.specs.Stages.{AtChanges, AtFile, AtScript, AtWords, IsRead, IsTypedText, Works, history_of, report_of, type_refusal}
 use Rattle.kernel_serve.specs.Told.{Files, WhereTold}
 use Rattle.kernel_serve.specs.Words.{Command, report_command}
 use Rattle.kernel_serve.specs.inner.Steps.{IsStop, OnlyReport, OnlyText, StopsAtFile}
@@ -126,13 +128,28 @@ true_script : ProgramVerdictsAreTrue → (c : Command) (fs : Files) (out : List 
 true_script law c fs out u read (inl long) = absurd cc
 true_script law c fs out u read (inr (within, at)) = true_changes law c fs out u (changes_of (props_of u) (contents_of c.script fs)) read within refl at
 
+not_done : (f : TypeFault) → S.Done ≡ type_refusal f → ⊥
+not_done (T.Unknown x) e = absurd cc
+not_done (T.Twice x) e = absurd cc
+not_done (T.BadType at) e = absurd cc
+not_done (T.Arity at) e = absurd cc
+not_done (T.SideEffect at) e = absurd cc
+not_done (T.Recursive x) e = absurd cc
+not_done (T.ConstWrite at) e = absurd cc
+not_done (T.TooManyCells n) e = absurd cc
+not_done T.Memory e = absurd cc
+
 true_report : ProgramVerdictsAreTrue → (c : Command) (fs : Files) (out : List ℕ) → AtFile fs c S.Done out → TrueReport c fs out
 true_report law c fs out (inl long) = absurd cc
 true_report law c fs out (inr (within, inl stuck)) = absurd cc
 true_report law c fs out (inr (within, inr (ts, lexes, inl fault))) = absurd cc
-true_report law c fs out (inr (within, inr (ts, lexes, inr (is, parses, inl none)))) = absurd cc
-true_report law c fs out (inr (within, inr (ts, lexes, inr (is, parses, inr (u, program, at))))) =
-    true_script law c fs out u (record { within = within; tokens = ts; lexes = lexes; items = is; parses = parses; is_program = program }) at
+true_report law c fs out (inr (within, inr (ts, lexes, inr (is, parses, inl (f, checks, memory, stops))))) =
+    absurd (not_done f stops.0)
+true_report law c fs out (inr (within, inr (ts, lexes, inr (is, parses, inr (s, checks, inl none))))) = absurd cc
+true_report law c fs out (inr (within, inr (ts, lexes, inr (is, parses, inr (s, checks, inr (main, inl none)))))) = absurd cc
+true_report law c fs out (inr (within, inr (ts, lexes, inr (is, parses, inr (s, checks, inr (main, inr (u, program, at))))))) =
+    let typed : IsTypedText is = record { skeleton = s; checks = checks; main = main } in
+    true_script law c fs out u (record { within = within; tokens = ts; lexes = lexes; items = is; parses = parses; typed = typed; is_program = program }) at
 
 pub done_says : ProgramVerdictsAreTrue → (words : List (List ℕ)) (c : Command) (files : Option Files) (before after : Option (List ℕ)) (text : List ℕ) → report_command words ≡ Some c → IfSome files (λ fs. AtFile fs c S.Done text) → after ≡ append_known before text → WhereTold files before after (Says words S.Done)
 done_says law words c None before after text is at written = tt

@@ -23,12 +23,18 @@ lift : (file : List ℕ) (next : Next) (status : Status) (out : List ℕ) → At
 lift file next status out (inl long) = inl long
 lift file next status out (inr (within, inl stuck)) = inr (within, inl stuck)
 lift file next status out (inr (within, inr (ts, lexes, inl fault))) = inr (within, inr (ts, lexes, inl fault))
-lift file next status out (inr (within, inr (ts, lexes, inr (is, parses, inl none)))) = inr (within, inr (ts, lexes, inr (is, parses, inl none)))
-lift file next status out (inr (within, inr (ts, lexes, inr (is, parses, inr (u, program, at))))) = absurd at
+lift file next status out (inr (within, inr (ts, lexes, inr (is, parses, inl fault)))) = inr (within, inr (ts, lexes, inr (is, parses, inl fault)))
+lift file next status out (inr (within, inr (ts, lexes, inr (is, parses, inr (s, checks, inl none))))) =
+    inr (within, inr (ts, lexes, inr (is, parses, inr (s, checks, inl none))))
+lift file next status out (inr (within, inr (ts, lexes, inr (is, parses, inr (s, checks, inr (main, inl none)))))) =
+    inr (within, inr (ts, lexes, inr (is, parses, inr (s, checks, inr (main, inl none)))))
+lift file next status out (inr (within, inr (ts, lexes, inr (is, parses, inr (s, checks, inr (main, inr (u, program, at))))))) = absurd at
 
 -- a file that passes all its stages hands on
 through : (file : List ℕ) (u : Unit) (next : Next) (status : Status) (out : List ℕ) → IsRead file u → next u status out → AtLength file next status out
-through file u next status out read at = inr (read.within, inr (read.tokens, read.lexes, inr (read.items, read.parses, inr (u, read.is_program, at))))
+through file u next status out read at =
+    let t = read.typed in
+    inr (read.within, inr (read.tokens, read.lexes, inr (read.items, read.parses, inr (t.skeleton, t.checks, inr (t.main, inr (u, read.is_program, at))))))
 
 file_stops : (fs : Files) (c : Command) (status : Status) → UnlessReadFault {A = Unit} (Err status) (IsFileAnswer (contents_of c.file fs) (Err status)) → StopsAtFile fs c status
 file_stops fs c S.ReadFault h = tt

@@ -1,7 +1,8 @@
 -- The work of a call, stage by stage: `Works`, what it ends with and writes where nothing outside fails and there is
 -- memory. Each stage ends the call or hands on to the next one (this project's own).
-use Rattle.std.specs.Prelude.{◌≡◌, ◌≢◌, ◌⊎◌, ◌+◌, ◌<◌, ◌≤◌, ℕ, false, List, [], Option, None, Some, length}
+use Rattle.std.specs.Prelude.{◌≡◌, ◌≢◌, ◌⊎◌, ◌+◌, ◌<◌, ◌≤◌, ℕ, Bool, true, false, ◌&&◌, ◌||◌, List, [], ◌∷◌, Option, None, Some, Err, Ok, length, is_some, bytes_eq, codes}
 use Rattle.c_ast.specs.declared.unit.Item.{Item}
+use Rattle.c_ast.specs.declared.unit.Unit.{Unit as Text}
 use Rattle.c_lex.specs.Tokens.{Lexes, Stuck}
 use Rattle.c_lex.specs.declared.fault.LexFault.{LexFault}
 use Rattle.c_lex.specs.declared.token.Token.{Token}
@@ -12,6 +13,11 @@ use Rattle.kernel_serve.specs.Limits.{most_file, most_script}
 use Rattle.kernel_serve.specs.declared.status.LimitFault.TheVariants as Limit
 use Rattle.param_book.specs.Table.{opening_values}
 use Rattle.c_ir.specs.Props.{Props}
+use Rattle.c_ir.specs.declared.program.Skeleton.{Skeleton}
+use Rattle.c_ir.specs.declared.tree.Fun.{Fun}
+use Rattle.c_types.specs.Programs.{Checks}
+use Rattle.c_types.specs.declared.fault.TypeFault.{TypeFault}
+use Rattle.c_types.specs.declared.fault.TypeFault.TheVariants as T
 use Rattle.c_front.specs.declared.tree.Unit.{Unit}
 use Rattle.c_front.specs.Program.{IsProgram}
 use Rattle.c_front.specs.Rows.{props_of}
@@ -69,11 +75,38 @@ AtSmall file next status out =
     (NoTree file × StopsBy (S.Refused (Fault.Unbuilt Input.File)) status out)
     ⊎ ((u : Unit) × IsProgram file u × next u status out)
 
+-- a defined `main`
+abbrev pub is_main : Fun → Bool
+is_main f = is_some f.body && bytes_eq f.name (codes "main")
+
+abbrev pub has_main : List Fun → Bool
+has_main [] = false
+has_main (f ∷ fs) = is_main f || has_main fs
+
+-- the entry function: the program defines `main`, or the file is refused
+abbrev pub AtMain : List ℕ → Skeleton → Next → Status → List ℕ → Type 0
+AtMain file s next status out =
+    ((has_main s.program.fns ≡ false) × StopsBy (S.Refused (Fault.Types (T.Unknown (codes "main")))) status out)
+    ⊎ ((has_main s.program.fns ≡ true) × AtSmall file next status out)
+
+-- types: the text has a program, or a breach, a recursive function or too many cells
+abbrev pub type_refusal : TypeFault → Status
+type_refusal (T.TooManyCells count) = S.Limit (Limit.TooManyCells count)
+type_refusal f = S.Refused (Fault.Types f)
+
+abbrev pub text_of : List Item → Text
+text_of items = record { items = items }
+
+abbrev pub AtTypes : List ℕ → List Item → Next → Status → List ℕ → Type 0
+AtTypes file items next status out =
+    ((f : TypeFault) × Checks (text_of items) (Err f) × (f ≢ T.Memory) × StopsBy (type_refusal f) status out)
+    ⊎ ((s : Skeleton) × Checks (text_of items) (Ok s) × AtMain file s next status out)
+
 -- the grammar of C: the tokens are a text of C, or the reading stops
 abbrev pub AtParse : List ℕ → List Token → Next → Status → List ℕ → Type 0
 AtParse file tokens next status out =
     ((f : ParseFault) × IsFault file tokens f × (f ≢ P.Memory) × StopsBy (S.Refused (Fault.Parse f)) status out)
-    ⊎ ((items : List Item) × IsUnit file items tokens × AtSmall file next status out)
+    ⊎ ((items : List Item) × IsUnit file items tokens × AtTypes file items next status out)
 
 -- tokens: the file has tokens of C, or a first fault
 abbrev pub AtLex : List ℕ → Next → Status → List ℕ → Type 0
@@ -100,6 +133,12 @@ AtWords files (Some c) status out = AtFile files c status out
 abbrev pub Works : List (List ℕ) → Files → Status → List ℕ → Type 0
 Works words files status out = AtWords files (report_command words) status out
 
+-- a text that has a program, with a defined `main`
+pub record IsTypedText (items : List Item) : Type 0 where
+  pub skeleton : Skeleton
+  pub checks : Checks (text_of items) (Ok skeleton)
+  pub main : has_main skeleton.program.fns ≡ true
+
 -- What is read: a file that passes all its stages, of this program.
 pub record IsRead (file : List ℕ) (u : Unit) : Type 0 where
   pub within : length file ≤ most_file
@@ -107,4 +146,5 @@ pub record IsRead (file : List ℕ) (u : Unit) : Type 0 where
   pub lexes : Lexes file tokens
   pub items : List Item
   pub parses : IsUnit file items tokens
+  pub typed : IsTypedText items
   pub is_program : IsProgram file u

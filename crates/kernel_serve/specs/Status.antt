@@ -5,6 +5,8 @@ use Rattle.c_lex.specs.declared.fault.LexFault.{LexFault}
 use Rattle.c_lex.specs.declared.fault.LexFault.TheVariants as L
 use Rattle.c_parse.specs.declared.text.ParseFault.{ParseFault}
 use Rattle.c_parse.specs.declared.text.ParseFault.TheVariants as P
+use Rattle.c_types.specs.declared.fault.TypeFault.{TypeFault}
+use Rattle.c_types.specs.declared.fault.TypeFault.TheVariants as T
 use Rattle.kernel_serve.specs.declared.status.Input.TheVariants as Input
 use Rattle.kernel_serve.specs.declared.status.FrontFault.TheVariants as Fault
 use Rattle.kernel_serve.specs.declared.status.LimitFault.{LimitFault}
@@ -40,15 +42,32 @@ parse_text (P.Unsupported word at) = codes "refused: parse Unsupported " ++ (wor
 parse_text (P.TooDeep at) = with_number (codes "refused: parse TooDeep ") at
 parse_text P.Memory = codes "out of memory\n"
 
+-- a name, on a line
+abbrev pub with_name : List ℕ → List ℕ → List ℕ
+with_name text x = text ++ (x ++ codes "\n")
+
+unfoldable pub types_text : TypeFault → List ℕ
+types_text (T.Unknown x) = with_name (codes "refused: types Unknown ") x
+types_text (T.Twice x) = with_name (codes "refused: types Twice ") x
+types_text (T.BadType at) = with_number (codes "refused: types BadType ") at
+types_text (T.Arity at) = with_number (codes "refused: types Arity ") at
+types_text (T.SideEffect at) = with_number (codes "refused: types SideEffect ") at
+types_text (T.Recursive x) = with_name (codes "refused: types Recursive ") x
+types_text (T.ConstWrite at) = with_number (codes "refused: types ConstWrite ") at
+types_text (T.TooManyCells count) = with_number (codes "limit: TooManyCells ") count
+types_text T.Memory = codes "out of memory\n"
+
 unfoldable pub limit_text : LimitFault → List ℕ
 limit_text (Limit.FileTooLong count) = with_number (codes "limit: FileTooLong ") count
 limit_text (Limit.ScriptTooLong count) = with_number (codes "limit: ScriptTooLong ") count
+limit_text (Limit.TooManyCells count) = with_number (codes "limit: TooManyCells ") count
 
 -- the line that the program writes to standard error; none where all went well
 abbrev pub fault_text : Status → List ℕ
 fault_text S.Done = []
 fault_text (S.Refused (Fault.Lex fault)) = lex_text fault
 fault_text (S.Refused (Fault.Parse fault)) = parse_text fault
+fault_text (S.Refused (Fault.Types fault)) = types_text fault
 fault_text (S.Refused (Fault.Unbuilt Input.File)) = codes "refused: file Unbuilt\n"
 fault_text (S.Refused (Fault.Unbuilt Input.Script)) = codes "refused: script Unbuilt\n"
 fault_text S.Usage = codes "usage\n"

@@ -31,10 +31,10 @@ const MAIN: u32 = 0;
 /// `-`; EVENTS isn't empty and doesn't begin with `-`. Other words are Usage, and then nothing is read.
 ///
 /// The file is read first. It is refused at the first of these stages that it doesn't pass: it has at most
-/// 4,194,304 bytes (Limit); it has tokens of C (`c_lex::tokens`); they are a text of C (`c_parse::parse`); it is
-/// a program of the small language that is built (`c_front::unit`). Else the script is read, and refused where
-/// it has more than 16,777,216 bytes (Limit), or where its lines aren't each blank or ask for a change that is
-/// allowed:
+/// 4,194,304 bytes (Limit); it has tokens of C (`c_lex::tokens`); they are a text of C (`c_parse::parse`); the text
+/// has a typed program (`c_types::check`; Limit where it has too many cells), in which `main` is defined; it is a
+/// program of the small language that is built (`c_front::unit`). Else the script is read, and refused where it has
+/// more than 16,777,216 bytes (Limit), or where its lines aren't each blank or ask for a change that is allowed:
 ///
 /// - `{"register":NAME,"correctness":[]}`, where no emitter has the name and there are fewer than 256;
 /// - `{"emit":EMITTER,"prop":NAME,"status":STATUS,"hyps":[NAME, ..]}`, where an earlier line registered the

@@ -1,14 +1,19 @@
-//! The stages of a file: its length, its tokens, the grammar of C, and the small language.
+//! The stages of a file: its length, its tokens, the grammar of C, its types, and the small language.
 
 ghost use Rattle.std.specs.Prelude.{◌≡◌, ◌≤◌, IfErr, IfOk, length};
 ghost use Rattle.c_front.specs.Rows.{rows_of};
-ghost use Rattle.kernel_serve.specs.Stages.{IsRead};
-ghost use Rattle.kernel_serve.specs.inner.Steps.{IsFileAnswer, lex_status, parse_status};
+ghost use Rattle.c_ast.specs.Weight.{weight_of_unit};
+ghost use Rattle.kernel_serve.specs.Stages.{IsRead, has_main, is_main};
+ghost use Rattle.kernel_serve.specs.inner.Steps.{IsFileAnswer, IsTypesAnswer, lex_status, parse_status, type_status};
 
 use crate::status::{FrontFault, Input, LimitFault, Status};
+use c_ast::Unit as Tree;
 use c_front::{Unit, UnitFault, one_tree, unit};
+use c_ir::Fun;
 use c_lex::{LexFault, tokens};
 use c_parse::{ParseFault, parse};
+use c_types::{TypeFault, check, one_program};
+use fc_base::Name;
 use std::alloc::Global;
 
 /// The most bytes of a file.
@@ -31,6 +36,10 @@ pub(crate) fn unit_in(alloc: Global, bytes: &[u8]) -> Result<Unit, Status>
         Ok(tree) => tree,
         Err(fault) => return Err(parse_status(fault)),
     };
+    match typed(alloc, &tree) {
+        Ok(()) => (),
+        Err(status) => return Err(status),
+    }
     drop(tree);
     match unit(alloc, bytes) {
         Ok(unit) => Ok(unit),
@@ -66,5 +75,62 @@ fn parse_status(fault: ParseFault) -> Status
             Status::Refused(FrontFault::Parse(ParseFault::Unsupported(word, at)))
         }
         ParseFault::TooDeep(at) => Status::Refused(FrontFault::Parse(ParseFault::TooDeep(at))),
+    }
+}
+
+/// How a call ends where a file's text has no program.
+fn type_status(fault: TypeFault) -> Status
+    ensures { result ≡ type_status fault }
+{
+    match fault {
+        TypeFault::Memory => Status::Memory,
+        TypeFault::TooManyCells(count) => Status::Limit(LimitFault::TooManyCells(count)),
+        TypeFault::Unknown(name) => Status::Refused(FrontFault::Types(TypeFault::Unknown(name))),
+        TypeFault::Twice(name) => Status::Refused(FrontFault::Types(TypeFault::Twice(name))),
+        TypeFault::BadType(at) => Status::Refused(FrontFault::Types(TypeFault::BadType(at))),
+        TypeFault::Arity(at) => Status::Refused(FrontFault::Types(TypeFault::Arity(at))),
+        TypeFault::SideEffect(at) => Status::Refused(FrontFault::Types(TypeFault::SideEffect(at))),
+        TypeFault::Recursive(name) => {
+            Status::Refused(FrontFault::Types(TypeFault::Recursive(name)))
+        }
+        TypeFault::ConstWrite(at) => Status::Refused(FrontFault::Types(TypeFault::ConstWrite(at))),
+    }
+}
+
+/// Whether this is a defined `main`.
+fn is_main(f: &Fun) -> bool
+    ensures { result ≡ is_main f.now }
+{
+    f.body.is_some() && f.name.as_str() == "main"
+}
+
+/// Whether one of these functions is a defined `main`.
+fn has_main(all: &[Fun]) -> bool
+    ensures { result ≡ has_main all.now }
+{
+    for f in all {
+        if is_main(f) {
+            return true;
+        }
+    }
+    false
+}
+
+/// Whether a text has a program with a defined `main`; refused where it doesn't.
+fn typed(alloc: Global, tree: &Tree) -> Result<(), Status>
+    requires { weight_of_unit tree.now ≤ 4194304 }
+    ensures { IsTypesAnswer tree.now.items result }
+{
+    one_program();
+    let skeleton = match check(alloc, tree) {
+        Ok(skeleton) => skeleton,
+        Err(fault) => return Err(type_status(fault)),
+    };
+    if has_main(skeleton.program.fns.as_slice()) {
+        return Ok(());
+    }
+    match Name::new(alloc, "main") {
+        Ok(name) => Err(Status::Refused(FrontFault::Types(TypeFault::Unknown(name)))),
+        Err(_) => Err(Status::Memory),
     }
 }

@@ -1,10 +1,12 @@
 //! How a call ends.
 
 ghost use Rattle.std.specs.Prelude.{◌≡◌, IfOk};
-ghost use Rattle.kernel_serve.specs.Status.{exit_status, fault_text, lex_text, parse_text, limit_text};
+ghost use Rattle.kernel_serve.specs.Status.{exit_status, fault_text, lex_text, parse_text, types_text, limit_text, with_name};
 
 use c_lex::LexFault;
 use c_parse::ParseFault;
+use c_types::TypeFault;
+use fc_base::Name;
 use std::alloc::{AllocError, Global};
 
 /// One of the two files that a command names.
@@ -23,17 +25,22 @@ pub enum FrontFault {
     Lex(LexFault),
     /// The file's tokens are no program (C11 6.5 to 6.9, cut down); the fault is never its Memory.
     Parse(ParseFault),
+    /// The file's text has no program (C11 6.3, 6.5 to 6.9), or `main` isn't defined, which is Unknown. The fault is
+    /// never its Memory or TooManyCells.
+    Types(TypeFault),
     /// It isn't of the forms that are built so far.
     Unbuilt(Input),
 }
 
-/// Which limit an input passes, with the limit plus one.
+/// Which limit an input passes, with the limit plus one or the count.
 #[derive(Clone, Copy, Debug, PartialEq, Eq)]
 pub enum LimitFault {
     /// The file has more than 4,194,304 bytes.
     FileTooLong(u64),
     /// The script has more than 16,777,216 bytes.
     ScriptTooLong(u64),
+    /// The program has more than 4,096 cells; how many.
+    TooManyCells(u32),
 }
 
 /// How a call ended.
@@ -83,6 +90,7 @@ pub fn fault_line(alloc: Global, status: &Status) -> Result<Vec<u8>, AllocError>
         Status::Done => Ok(Vec::new(alloc)),
         Status::Refused(FrontFault::Lex(fault)) => lex_line(alloc, fault),
         Status::Refused(FrontFault::Parse(fault)) => parse_line(alloc, fault),
+        Status::Refused(FrontFault::Types(fault)) => types_line(alloc, fault),
         Status::Refused(FrontFault::Unbuilt(Input::File)) => {
             line(alloc, "refused: file Unbuilt\n")
         }
@@ -145,6 +153,34 @@ fn parse_line(alloc: Global, fault: &ParseFault) -> Result<Vec<u8>, AllocError>
     }
 }
 
+/// A line that ends with a name.
+fn named_line(alloc: Global, start: &str, name: &Name) -> Result<Vec<u8>, AllocError>
+    ensures { IfOk result (λ line. line.items ≡ with_name start.now name.now) }
+{
+    let mut text = line(alloc, start)?;
+    text.extend_from_slice(name.as_str().as_bytes())?;
+    text.extend_from_slice("\n".as_bytes())?;
+    Ok(text)
+}
+
+#[tactic(auto, unfolding(crate::specs::Status::types_text))]
+fn types_line(alloc: Global, fault: &TypeFault) -> Result<Vec<u8>, AllocError>
+    ensures { IfOk result (λ line. line.items ≡ types_text fault.now) }
+{
+    let text = match fault {
+        TypeFault::Unknown(name) => return named_line(alloc, "refused: types Unknown ", name),
+        TypeFault::Twice(name) => return named_line(alloc, "refused: types Twice ", name),
+        TypeFault::Recursive(name) => return named_line(alloc, "refused: types Recursive ", name),
+        TypeFault::BadType(at) => format!(in alloc; "refused: types BadType {at}\n")?,
+        TypeFault::Arity(at) => format!(in alloc; "refused: types Arity {at}\n")?,
+        TypeFault::SideEffect(at) => format!(in alloc; "refused: types SideEffect {at}\n")?,
+        TypeFault::ConstWrite(at) => format!(in alloc; "refused: types ConstWrite {at}\n")?,
+        TypeFault::TooManyCells(count) => format!(in alloc; "limit: TooManyCells {count}\n")?,
+        TypeFault::Memory => return line(alloc, "out of memory\n"),
+    };
+    line(alloc, text.as_str())
+}
+
 #[tactic(auto, unfolding(crate::specs::Status::limit_text))]
 fn limit_line(alloc: Global, fault: LimitFault) -> Result<Vec<u8>, AllocError>
     ensures { IfOk result (λ line. line.items ≡ limit_text fault) }
@@ -152,6 +188,7 @@ fn limit_line(alloc: Global, fault: LimitFault) -> Result<Vec<u8>, AllocError>
     let text = match fault {
         LimitFault::FileTooLong(count) => format!(in alloc; "limit: FileTooLong {count}\n")?,
         LimitFault::ScriptTooLong(count) => format!(in alloc; "limit: ScriptTooLong {count}\n")?,
+        LimitFault::TooManyCells(count) => format!(in alloc; "limit: TooManyCells {count}\n")?,
     };
     line(alloc, text.as_str())
 }

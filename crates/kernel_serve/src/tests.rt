@@ -3,6 +3,7 @@
 mod scripts;
 
 use super::*;
+use c_types::TypeFault;
 use fc_outside::{MemFile, MemShelf, MemSink};
 use sqlite_items::Items;
 use std::alloc::{AllocError, Global};
@@ -23,6 +24,8 @@ Total 2
 const DONE: &str = "";
 
 const NO_FILE: &str = "refused: file Unbuilt\n";
+
+const NO_MAIN: &str = "refused: types Unknown main\n";
 
 const NO_SCRIPT: &str = "refused: script Unbuilt\n";
 
@@ -112,7 +115,7 @@ fn reports_are_written(rt: HostRuntime) -> Result<(), Fail> {
 }
 
 /// Files that are refused, with the line that says why.
-const REFUSED_FILES: [(&str, &str); 34] = [
+const REFUSED_FILES: [(&str, &str); 45] = [
     // no tokens of C
     (
         "int main(void) { return 0; } @",
@@ -146,19 +149,53 @@ const REFUSED_FILES: [(&str, &str); 34] = [
         "int main(void) { goto l; }",
         "refused: parse Unsupported goto 17\n",
     ),
+    // no defined `main`
+    ("", NO_MAIN),
+    ("int main(void);", NO_MAIN),
+    ("int f(void) { return 0; }", NO_MAIN),
+    // breaches of types
+    (
+        "int main(void) { int x = 1; int x = 2; return x; }",
+        "refused: types Twice x\n",
+    ),
+    (
+        "int main(void) { x = 1; int x = 2; return x; }",
+        "refused: types Unknown x\n",
+    ),
+    (
+        "int main(void) { int x = x; return x; }",
+        "refused: types BadType 25\n",
+    ),
+    ("int main(void) { return y; }", "refused: types Unknown y\n"),
+    (
+        "int f(int a) { return a; } int main(void) { return f(); }",
+        "refused: types Arity 51\n",
+    ),
+    (
+        "int main(void) { int a; int b; a = b = 1; return 0; }",
+        "refused: types SideEffect 35\n",
+    ),
+    (
+        "const int k = 1; int main(void) { k = 2; return 0; }",
+        "refused: types ConstWrite 34\n",
+    ),
+    (
+        "int k = 1; int k = 2; int main(void) { return 0; }",
+        "refused: types Twice k\n",
+    ),
+    (
+        "int f(void) { return f(); } int main(void) { return 0; }",
+        "refused: types Recursive f\n",
+    ),
+    (
+        "int a[4096]; int main(void) { return 0; }",
+        "limit: TooManyCells 4097\n",
+    ),
     // another program than those that are built
-    ("", NO_FILE),
+    ("int a[4095]; int main(void) { return 0; }", NO_FILE),
     ("int main(void) { }", NO_FILE),
     ("int main(void) { return 0; return 1; }", NO_FILE),
     ("int main() { return 0; }", NO_FILE),
-    ("int f(void) { return 0; }", NO_FILE),
-    (
-        "int main(void) { int x = 1; int x = 2; return x; }",
-        NO_FILE,
-    ),
-    ("int main(void) { x = 1; int x = 2; return x; }", NO_FILE),
-    ("int main(void) { int x = x; return x; }", NO_FILE),
-    ("int main(void) { return y; }", NO_FILE),
     ("int main(void) { int x; return 0; }", NO_FILE),
     ("int main(void) { return 01; }", NO_FILE),
     ("int main(void) { return 2147483648; }", NO_FILE),
@@ -175,6 +212,15 @@ const REFUSED_FILES: [(&str, &str); 34] = [
     ("int *p; /*", "refused: lex OpenComment 8\n"),
     ("int main(void) { return y; } x", "refused: parse NotC 29\n"),
     ("int x = 1 2; @", "refused: lex BadByte 13\n"),
+    (
+        "int f(void) { return f() + y; } int g(void) { return z; }",
+        "refused: types SideEffect 21\n",
+    ),
+    (
+        "int a[4096]; int f(void) { return f(); }",
+        "refused: types Recursive f\n",
+    ),
+    ("int a[4096]; int f(void);", "limit: TooManyCells 4097\n"),
 ];
 
 #[test]
@@ -239,7 +285,7 @@ fn words_are_four(rt: HostRuntime) -> Result<(), Fail> {
     // These name files that aren't there, which are empty.
     for file in ["", "-", "g.c"] {
         let words = ["report", file, "--script", "e"];
-        let holds = answers(alloc, &words, inputs, QUICK, NO_FILE, b"")?;
+        let holds = answers(alloc, &words, inputs, QUICK, NO_MAIN, b"")?;
         assert!(rt; holds, "{file}");
     }
     Ok(())
@@ -376,9 +422,9 @@ fn many_asserts(alloc: Global, asserts: u16) -> Result<(Vec<u8>, Vec<u8>), Alloc
 
 #[test]
 fn large_files_are_reported(rt: HostRuntime) -> Result<(), Fail> {
-    let (file, report) = long_sum(rt.alloc(), 10_000)?;
+    let (file, report) = long_sum(rt.alloc(), 1_000)?;
     let holds = reports(rt.alloc(), file.as_slice(), QUICK, report.as_slice())?;
-    assert!(rt; holds, "a sum of 10,000 items");
+    assert!(rt; holds, "a sum of 1,000 items");
     let (file, report) = many_asserts(rt.alloc(), 3_000)?;
     let holds = reports(rt.alloc(), file.as_slice(), QUICK, report.as_slice())?;
     assert!(rt; holds, "3,000 asserts");
@@ -407,6 +453,16 @@ fn statuses_are_told(rt: HostRuntime) -> Result<(), Fail> {
             Status::Limit(LimitFault::FileTooLong(4_194_305)),
             6,
             "limit: FileTooLong 4194305\n",
+        ),
+        (
+            Status::Limit(LimitFault::TooManyCells(4_097)),
+            6,
+            "limit: TooManyCells 4097\n",
+        ),
+        (
+            Status::Refused(FrontFault::Types(TypeFault::Arity(7))),
+            1,
+            "refused: types Arity 7\n",
         ),
     ];
     for (status, number, text) in cases {

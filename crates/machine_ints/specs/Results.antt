@@ -7,7 +7,7 @@ use Rattle.machine_ints.specs.declared.operators.Operator.TheVariants.{Add, Sub,
 use Rattle.machine_ints.specs.declared.operators.UnaryOperator.{UnaryOperator}
 use Rattle.machine_ints.specs.declared.operators.UnaryOperator.TheVariants.{Complement}
 
--- the right operand is a number of the type; that of a shift may be of another one
+-- the right operand is a number of the type; that of a shift may be of another type
 abbrev pub IsRightOperand : Operator → ℤ → ℤ → ℤ → Type 0
 IsRightOperand Add lo hi y = IsWithin lo hi y
 IsRightOperand Sub lo hi y = IsWithin lo hi y

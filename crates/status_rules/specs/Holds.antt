@@ -75,8 +75,8 @@ some_prop test (Some d) = test d.0
 abbrev pub dead_passes : Props → (ℕ → Bool) → ℕ → Bool
 dead_passes t test p = is_live t p && some_prop test (dead_of t.rows p)
 
--- a property of the table that passes one test or another one, or that isn't of kind Dead and whose point's
--- property of kind Dead passes the other
+-- a property of the table that passes either of two tests, or that isn't of kind Dead and whose point's
+-- property of kind Dead passes the second
 abbrev pub extends : Props → (ℕ → Bool) → (ℕ → Bool) → ℕ → Bool
 extends t known claimed p = is_row t p && (known p || (claimed p || dead_passes t claimed p))
 

@@ -1,7 +1,10 @@
 -- What the steps of a call find: the code's side.
 use Rattle.std.specs.Prelude.{◌≡◌, ◌+◌, ◌<◌, ◌≤◌, ℕ, List, [], Option, Some, None, Result, Ok, Err, IfOk, IfErr, length}
 use Rattle.std.specs.Global.{Vec}
+use Rattle.c_ast.specs.declared.unit.Item.{Item}
 use Rattle.c_ir.specs.Props.{Props}
+use Rattle.c_types.specs.declared.fault.TypeFault.{TypeFault}
+use Rattle.c_types.specs.declared.fault.TypeFault.TheVariants as T
 use Rattle.c_lex.specs.declared.fault.LexFault.{LexFault}
 use Rattle.c_lex.specs.declared.fault.LexFault.TheVariants as L
 use Rattle.c_parse.specs.declared.text.ParseFault.{ParseFault}
@@ -18,7 +21,7 @@ use Rattle.kernel_serve.specs.declared.status.Status.TheVariants as S
 use Rattle.kernel_serve.specs.declared.words.Command as words
 use Rattle.kernel_serve.specs.Limits.{most_script}
 use Rattle.kernel_serve.specs.Script.{changes_of}
-use Rattle.kernel_serve.specs.Stages.{AtFile, AtLength, IsRead, Next, report_of}
+use Rattle.kernel_serve.specs.Stages.{AtFile, AtLength, AtTypes, IsRead, IsTypedText, Next, report_of}
 use Rattle.kernel_serve.specs.Told.{Files}
 use Rattle.kernel_serve.specs.Words.{Command}
 
@@ -54,9 +57,39 @@ parse_status (P.NotC at) = S.Refused (Fault.Parse (P.NotC at))
 parse_status (P.Unsupported word at) = S.Refused (Fault.Parse (P.Unsupported word at))
 parse_status (P.TooDeep at) = S.Refused (Fault.Parse (P.TooDeep at))
 
+abbrev pub type_status : TypeFault → Status
+type_status T.Memory = S.Memory
+type_status (T.Unknown x) = S.Refused (Fault.Types (T.Unknown x))
+type_status (T.Twice x) = S.Refused (Fault.Types (T.Twice x))
+type_status (T.BadType at) = S.Refused (Fault.Types (T.BadType at))
+type_status (T.Arity at) = S.Refused (Fault.Types (T.Arity at))
+type_status (T.SideEffect at) = S.Refused (Fault.Types (T.SideEffect at))
+type_status (T.Recursive x) = S.Refused (Fault.Types (T.Recursive x))
+type_status (T.ConstWrite at) = S.Refused (Fault.Types (T.ConstWrite at))
+type_status (T.TooManyCells count) = S.Limit (Limit.TooManyCells count)
+
 -- nothing comes after
 abbrev pub nothing : Next
 nothing u status out = ⊥
+
+-- the stage of types stops
+abbrev pub StopsInTypes : List ℕ → List Item → Status → Type 0
+StopsInTypes file items S.Memory = Prim.Unit {0}
+StopsInTypes file items (S.Refused fault) = AtTypes file items nothing (S.Refused fault) []
+StopsInTypes file items (S.Limit fault) = AtTypes file items nothing (S.Limit fault) []
+StopsInTypes file items status = ⊥
+
+-- an answer for a text that has a program
+abbrev pub OnlyTyped : Result (Prim.Unit {0}) Status → Type 0
+OnlyTyped (Ok x) = Prim.Unit {0}
+OnlyTyped (Err S.Memory) = Prim.Unit {0}
+OnlyTyped (Err status) = ⊥
+
+-- what the stage of types answers
+pub record IsTypesAnswer (items : List Item) (answer : Result (Prim.Unit {0}) Status) : Type 0 where
+  pub found : IfOk answer (λ _. IsTypedText items)
+  pub stops : (file : List ℕ) → IfErr answer (StopsInTypes file items)
+  pub only : IsTypedText items → OnlyTyped answer
 
 -- the file's own stages stop
 abbrev pub StopsInFile : List ℕ → Status → Type 0

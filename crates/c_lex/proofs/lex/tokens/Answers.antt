@@ -4,7 +4,7 @@ use Rattle.c_lex.specs.Tokens.{Spot, Stuck, IsOnlyFault}
 use Rattle.c_lex.specs.inner.Reading.{To, spot_of, step_of}
 use Rattle.c_lex.proofs.Left.{goes-left}
 use Rattle.c_lex.proofs.OneReading.{Found, are_only, is_only_fault, unless, goes, found-gap, found-token, found-end, found-fault}
-use Rattle.c_lex.proofs.TokenFacts.{in_place, noted}
+use Rattle.c_lex.proofs.TokenFacts.{in_place, noted, few}
 use Rattle.c_lex.proofs.lex.tokens.Goals as goal
 
 pub returns-in-End-clause-found : goal.returns-in-End-clause-found
@@ -18,6 +18,11 @@ returns-in-End-clause-in_place c = in_place _ _ (found-end _ (spot_of c.lexing.p
 
 pub returns-in-End-clause-noted : goal.returns-in-End-clause-noted
 returns-in-End-clause-noted c = noted _ _ (found-end _ (spot_of c.lexing.place) _ c.in-End.ensures.value c.lexing.invariant.found)
+
+pub returns-in-End-clause-few : goal.returns-in-End-clause-few
+returns-in-End-clause-few c =
+    let found = found-end _ (spot_of c.lexing.place) _ c.in-End.ensures.value c.lexing.invariant.found in
+    few _ _ (in_place _ _ found) (noted _ _ found)
 
 pub lexing-smaller-in-Gap : goal.lexing-smaller-in-Gap
 lexing-smaller-in-Gap c =

@@ -1,10 +1,15 @@
 use Rattle.std.proofs.Common.{sym, ◌∙◌}
 use Rattle.c_parse.proofs.Programs.{is_unit, is_only, no_rest, no_unit, no_only, ends_early, stops_before, too_many, refusal_is}
+use Rattle.c_parse.proofs.Weights.{unit_weighs}
 use Rattle.c_parse.proofs.text.parse.Goals as goal
 
 pub returns-then-is_empty-clause-found : goal.returns-then-is_empty-clause-found
 returns-then-is_empty-clause-found c =
     is_unit _ _ _ _ c.in-Ok.ensures.value (sym c.is_empty.ensures ∙ c.if-is_empty.true)
+
+pub returns-then-is_empty-clause-size : goal.returns-then-is_empty-clause-size
+returns-then-is_empty-clause-size c =
+    unit_weighs _ _ _ (is_unit _ _ _ _ c.in-Ok.ensures.value (sym c.is_empty.ensures ∙ c.if-is_empty.true))
 
 pub returns-then-is_empty-clause-only : goal.returns-then-is_empty-clause-only
 returns-then-is_empty-clause-only c = λ is p. is_only _ _ _ _ _ c.in-Ok.ensures.value p

@@ -1,0 +1,4 @@
+pub mod Evaluations
+pub mod Formed
+pub mod Named
+pub mod Sited

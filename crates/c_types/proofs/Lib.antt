@@ -1,0 +1,12 @@
+pub mod Answered
+pub mod Args
+pub mod Puts
+pub mod Ending
+pub mod Graphs
+pub mod Least
+pub mod Noting
+pub mod Numbering
+pub mod Roomy
+pub mod Rooms
+pub mod Rows
+pub mod Undoing

@@ -1,0 +1,5 @@
+use Rattle.call_cycles.proofs.Pigeonhole.{ends_if_first}
+use Rattle.call_cycles.proofs.first_on_cycle.Goals as goal
+
+pub returns-clause-ends : goal.returns-clause-ends
+returns-clause-ends c = ends_if_first c.args.calls.now c.requires.range c.first_of.result c.first_of.ensures
