@@ -1,5 +1,7 @@
 pub mod Cases
 pub mod Chains
 pub mod Pigeonhole
+pub mod Paths
 pub mod Colours
-pub mod Marks
+pub mod Walk
+pub mod Firsts

@@ -61,7 +61,7 @@ fn chain(alloc: Global, count: u32, last: &[u32]) -> Result<Vec<Items<u32>>, All
 
 #[test]
 fn small_graphs(rt: HostRuntime) -> Result<(), AllocError> {
-    let table: [(&str, &[&[u32]], Option<u32>); 12] = [
+    let table: [(&str, &[&[u32]], Option<u32>); 19] = [
         ("no function", &[], None),
         ("no call", &[&[]], None),
         ("a self call", &[&[0]], Some(0)),
@@ -94,6 +94,41 @@ fn small_graphs(rt: HostRuntime) -> Result<(), AllocError> {
             &[&[1, 2], &[3], &[3], &[1]],
             Some(1),
         ),
+        (
+            "three components, the lowest of which is no cycle",
+            &[&[3], &[2], &[1], &[4], &[5], &[3]],
+            Some(1),
+        ),
+        (
+            "a component that a lower number reaches after another closed",
+            &[&[3, 1], &[2], &[1], &[3]],
+            Some(1),
+        ),
+        (
+            "a call of an open function that is no caller",
+            &[&[3], &[2], &[3], &[2, 1]],
+            Some(1),
+        ),
+        (
+            "a call of a closed function on a cycle",
+            &[&[2, 1], &[2], &[2]],
+            Some(2),
+        ),
+        (
+            "a call of a closed function from a later one on a cycle",
+            &[&[], &[2, 0], &[3], &[0, 1]],
+            Some(1),
+        ),
+        (
+            "a call of an open function before a call of a closed one",
+            &[&[1], &[2, 3], &[1, 3], &[]],
+            Some(1),
+        ),
+        (
+            "two cycles, the one inside the other",
+            &[&[1], &[2], &[1, 3], &[0]],
+            Some(0),
+        ),
     ];
     for (name, rows, want) in table {
         let calls = graph(rt.alloc(), rows)?;
@@ -106,12 +141,13 @@ fn small_graphs(rt: HostRuntime) -> Result<(), AllocError> {
 
 #[test]
 fn long_chains(rt: HostRuntime) -> Result<(), AllocError> {
-    for (last, want) in [
-        (&[] as &[u32], None),
-        (&[0], Some(0)),
-        (&[1_500], Some(1_500)),
+    for (count, last, want) in [
+        (2_000, &[] as &[u32], None),
+        (2_000, &[0], Some(0)),
+        (2_000, &[1_500], Some(1_500)),
+        (1_501, &[1_500], Some(1_500)),
     ] {
-        let calls = chain(rt.alloc(), 2_000, last)?;
+        let calls = chain(rt.alloc(), count, last)?;
         assert!(rt; answer(&rt, rt.alloc(), &calls)? == want);
     }
     Ok(())

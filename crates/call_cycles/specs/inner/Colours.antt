@@ -1,34 +1,38 @@
 -- The colours of a depth-first walk.
-use Rattle.std.specs.Prelude.{◌≡◌, ◌+◌, ℕ, List, [], ◌∷◌, Bool, true, false, get_or}
-use Rattle.call_cycles.specs.declared.colouring.Colour.{Colour}
-use Rattle.call_cycles.specs.declared.colouring.Colour.TheVariants.{Unvisited, Visiting, Ended, Endless}
-use Rattle.call_cycles.specs.Calls.{Graph, ends}
+use Rattle.std.specs.Prelude.{◌≤◌, ◌+◌, ℕ, List, [], ◌∷◌, Bool, true, false, get_or, set}
+use Rattle.call_cycles.specs.declared.state.Colour.{Colour}
+use Rattle.call_cycles.specs.declared.state.Colour.TheVariants.{Unvisited, Open, Closed}
 
-abbrev pub is_ended : Colour → Bool
-is_ended Ended = true
-is_ended Unvisited = false
-is_ended Visiting = false
-is_ended Endless = false
+-- the colour of function f; a number beyond the list has not been visited
+abbrev pub colour : List Colour → ℕ → Colour
+colour cs f = get_or cs f Unvisited
 
--- whether the colour of function f is Ended
-abbrev pub ended_at : List Colour → ℕ → Bool
-ended_at colours f = is_ended (get_or colours f Unvisited)
+abbrev pub is_new : Colour → Bool
+is_new Unvisited = true
+is_new (Open i) = false
+is_new Closed = false
+
+-- whether function f has not been visited
+abbrev pub new_at : List Colour → ℕ → Bool
+new_at cs f = is_new (colour cs f)
+
+-- a colour of a visited function: if it is open, then not at a place below low
+abbrev pub Seen : ℕ → Colour → Type 0
+Seen low Unvisited = ⊥
+Seen low (Open i) = low ≤ i
+Seen low Closed = Unit {0}
 
 -- how many functions have not been visited
 abbrev pub unvisited_one : Colour → ℕ
 unvisited_one Unvisited = 1
-unvisited_one Visiting = 0
-unvisited_one Ended = 0
-unvisited_one Endless = 0
+unvisited_one (Open i) = 0
+unvisited_one Closed = 0
 
 abbrev pub unvisited : List Colour → ℕ
 unvisited [] = 0
 unvisited (c ∷ cs) = unvisited_one c + unvisited cs
 
--- the chains of calls from f end
-abbrev pub Ends : Graph → ℕ → Type 0
-Ends g f = (k : ℕ) × (ends k g f ≡ true)
-
--- the chains of calls from each function whose colour is Ended do end
-abbrev pub Sound : Graph → List Colour → Type 0
-Sound g colours = (f : ℕ) → ended_at colours f ≡ true → Ends g f
+-- the colours where each function of a list is Closed
+abbrev pub close : List ℕ → List Colour → List Colour
+close [] cs = cs
+close (f ∷ fs) cs = close fs (set cs f Closed)
