@@ -1,8 +1,7 @@
-//! The properties of a program and their table.
+//! The typed program that the checks of C11's rules make of a text: its types, trees, cells, points and operators,
+//! and the table of its properties.
 #![tactic(auto)]
 
-#[cfg(test)]
-mod call_tests;
 mod calls;
 mod index;
 mod kind;
@@ -11,8 +10,6 @@ mod program;
 mod prop;
 mod sites;
 mod table;
-#[cfg(test)]
-mod tests;
 mod tree;
 mod ty;
 

@@ -29,6 +29,3 @@ pub use part::{
 };
 pub use text::{ParseFault, parse};
 pub use word::Prefix;
-
-#[cfg(test)]
-mod tests;

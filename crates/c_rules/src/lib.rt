@@ -13,8 +13,6 @@ mod name;
 mod operator;
 mod scope;
 mod specifiers;
-#[cfg(test)]
-mod tests;
 
 pub use breach::{Breach, Fault};
 pub use constants::{converted_value, evaluated, stops_where_a_check_fails};

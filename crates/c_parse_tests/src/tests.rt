@@ -1,7 +1,7 @@
 //! Texts with their trees, and texts with the places at which their reading stops.
 
-use crate::{ParseFault, parse};
 use c_ast::{Expr, Function, Global as Object, Init, Item, Length, Stmt, Unit};
+use c_parse::{ParseFault, parse};
 use fc_base::{BinaryOp, UnaryOp};
 use std::alloc::{AllocError, Global};
 use std::process::Abort;

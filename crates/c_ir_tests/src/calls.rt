@@ -1,6 +1,6 @@
 //! Calls in each kind of statement and expression.
 
-use crate::{Expr, Exprs, Init, IntType, Node, Stmt, Stmts, callees};
+use c_ir::{Expr, Exprs, Init, IntType, Node, Stmt, Stmts, callees};
 use fc_base::{BinaryOp, FnId, PointId};
 use sqlite_items::{Boxed, Items};
 use std::alloc::{AllocError, Global};

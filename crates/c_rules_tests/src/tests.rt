@@ -1,7 +1,7 @@
 //! Worked constant expressions, with values from C on the fixed machine.
 
-use super::*;
 use c_ir::{Expr, IntType, Node};
+use c_rules::{assigned, choice, constant, evaluated, stops_where_a_check_fails, zero};
 use fc_base::{BinaryOp, UnaryOp};
 use sqlite_items::Boxed;
 use std::alloc::{AllocError, Global};

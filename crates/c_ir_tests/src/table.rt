@@ -1,6 +1,6 @@
 //! The table on a small program.
 
-use crate::{AlarmKind, Kind, Prop, PropTable};
+use c_ir::{AlarmKind, Kind, Prop, PropTable};
 use fc_base::{Bounded, FnId, Line, PointId, PropId, PropName};
 use sqlite_items::Items;
 use std::alloc::{AllocError, Global};

@@ -1,0 +1,5 @@
+//! Constant expressions with their values.
+#![tactic(auto)]
+
+#[cfg(test)]
+mod tests;
