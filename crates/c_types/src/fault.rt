@@ -11,7 +11,7 @@ use thiserror::Error;
 /// Why a text has no program. Places are offsets of bytes in the text.
 #[derive(Debug, Drop, Error)]
 pub enum TypeFault {
-    /// A name that isn't declared where it is used (C11 6.5.1), or that is no function's where one is needed.
+    /// A name that isn't declared where it is used (C11 6.5.1).
     #[error("undeclared name")]
     Unknown(Name),
     /// A name that is declared or defined twice (C11 6.7, 6.9), or a function with two notes before it.

@@ -1,0 +1,4 @@
+pub mod Bodies
+pub mod Keeps
+pub mod Laws
+pub mod inner

@@ -1,0 +1,2 @@
+-- What the proofs on typed trees go by: no public contract cites it.
+pub mod Expressions
