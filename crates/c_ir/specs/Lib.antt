@@ -1,8 +1,13 @@
+pub mod Bodies
 pub mod Calls
 pub mod Checks
 pub mod Formed
+pub mod Keeps
 pub mod Kinds
 pub mod Numbers
+pub mod Placed
+pub mod Preds
+pub mod Programs
 pub mod Props
 pub mod Scopes
 pub mod Sited

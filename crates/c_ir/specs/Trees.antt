@@ -1,5 +1,5 @@
 -- Typed trees as values.
-use Rattle.std.specs.Prelude.{ℕ, ℤ, List, Option, None, pos}
+use Rattle.std.specs.Prelude.{ℤ, List, Option, None, pos}
 use Rattle.fc_base.specs.declared.ids.SiteId.{SiteId}
 use Rattle.c_ir.specs.declared.ty.IntType.{IntType}
 use Rattle.c_ir.specs.declared.ty.IntType.TheVariants as T

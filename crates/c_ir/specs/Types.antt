@@ -1,6 +1,6 @@
 -- C's integer types on the fixed machine: widths 8, 16, 32, 64 and 64, two's complement, and `char` signed (C11
 -- 6.2.5, 6.2.6.2, 6.3.1; which widths, and that `char` is signed, is the machine's).
-use Rattle.std.specs.Prelude.{ℕ, ◌-◌, ◌^◌, ℤ, pos, neg_ℤ, Bool, true, false, ◌==◌, nat_lt, ◌&&◌, if◌then◌else◌}
+use Rattle.std.specs.Prelude.{ℕ, ℤ, pos, neg_ℤ, Bool, true, false, ◌==◌, nat_lt, ◌&&◌, if◌then◌else◌}
 use Rattle.c_ir.specs.declared.ty.IntType.{IntType}
 use Rattle.c_ir.specs.declared.ty.IntType.TheVariants as T
 

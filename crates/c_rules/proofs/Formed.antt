@@ -22,12 +22,13 @@ use Rattle.c_ir.specs.Checks.{binary_checks, unary_checks}
 use Rattle.c_ir.specs.Trees.{expr, ty_of, constant, zero_expr}
 use Rattle.c_ir.specs.Types.{number, same_type, promoted, unsigned, common, greatest, least, rank, is_signed, width, higher}
 use Rattle.c_ir.specs.Formed.{Layout, Form, form, node_form, form_step, is_promoted, in_range, has_site, same_bool, unary_types, binary_types, arithmetic_types, relation_types, shift_types, choice_types, assign_types}
-use Rattle.c_rules.specs.declared.scope.Place.{Place}
-use Rattle.c_rules.specs.declared.scope.Place.TheVariants as P
+use Rattle.c_ir.specs.declared.place.Place.{Place}
+use Rattle.c_ir.specs.declared.place.Place.TheVariants as P
 use Rattle.c_rules.specs.Breaches.{is_dropped}
-use Rattle.c_rules.specs.Fits.{is_formed, is_target, Keeps}
+use Rattle.c_rules.specs.Fits.{is_target, Keeps}
+use Rattle.c_ir.specs.Placed.{is_formed}
 use Rattle.c_rules.specs.Typing as rule
-use Rattle.c_rules.specs.Typing.{Gave, gave, Typing, and_then}
+use Rattle.c_rules.specs.Typing.{Gave, gave, and_then}
 
 abbrev pub given : {X : Type 0} → Gave X → X
 given (gave x s) = x

@@ -16,12 +16,13 @@ use Rattle.c_ir.specs.Formed.{Layout, Callee, Form, form, has_site, same_bool, o
 use Rattle.c_rules.specs.declared.scope.Array.{Array}
 use Rattle.c_rules.specs.declared.scope.Object.{Object}
 use Rattle.c_rules.specs.declared.scope.Signature.{Signature}
-use Rattle.c_rules.specs.declared.scope.Place.{Place}
-use Rattle.c_rules.specs.declared.scope.Place.TheVariants as P
+use Rattle.c_ir.specs.declared.place.Place.{Place}
+use Rattle.c_ir.specs.declared.place.Place.TheVariants as P
 use Rattle.c_rules.specs.Breaches.{is_inner}
-use Rattle.c_rules.specs.Fits.{is_formed, is_target, is_arg, are_args, object_fits, same_types, same_result, is_callee, array_fits, function_fits}
+use Rattle.c_rules.specs.Fits.{is_target, is_arg, are_args, object_fits, same_types, same_result, is_callee, array_fits, function_fits}
+use Rattle.c_ir.specs.Placed.{is_formed}
 use Rattle.c_rules.specs.Typing as rule
-use Rattle.c_rules.specs.Typing.{Gave, gave, and_then}
+use Rattle.c_rules.specs.Typing.{Gave, gave}
 use Rattle.c_rules.proofs.Formed.{given, form_at, placed, value_of, plain_of, site_is, site_then, same_is, same_self, zero_formed}
 
 -- ---- objects

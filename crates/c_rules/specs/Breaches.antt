@@ -1,6 +1,6 @@
 -- The breaches of C's rules, each with its place, and the first of them: in the order of the text, and at one place
 -- in the order of numbers.
-use Rattle.std.specs.Prelude.{◌≡◌, ◌==◌, nat_lt, ℕ, Bool, true, false, not, ◌&&◌, ◌||◌, if◌then◌else◌, List, length, Option, Some, None, is_some}
+use Rattle.std.specs.Prelude.{◌==◌, nat_lt, ℕ, Bool, true, false, not, ◌&&◌, ◌||◌, if◌then◌else◌, List, length, Option, Some, None, is_some}
 use Rattle.c_rules.specs.declared.breach.Breach.{Breach}
 use Rattle.c_rules.specs.declared.breach.Fault.{Fault}
 use Rattle.c_rules.specs.declared.breach.Fault.TheVariants as F
@@ -8,8 +8,8 @@ use Rattle.c_rules.specs.declared.scope.Entry.{Entry}
 use Rattle.c_rules.specs.declared.scope.Entry.TheVariants as E
 use Rattle.c_rules.specs.declared.scope.Object.{Object}
 use Rattle.c_rules.specs.declared.scope.Signature.{Signature}
-use Rattle.c_rules.specs.declared.scope.Place.{Place}
-use Rattle.c_rules.specs.declared.scope.Place.TheVariants as P
+use Rattle.c_ir.specs.declared.place.Place.{Place}
+use Rattle.c_ir.specs.declared.place.Place.TheVariants as P
 
 -- the numbers of faults
 abbrev pub number : Fault → ℕ

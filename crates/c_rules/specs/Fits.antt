@@ -1,29 +1,20 @@
--- When a typed tree may stand in a place, and that what names stand for is part of what trees are formed over.
-use Rattle.std.specs.Prelude.{◌≡◌, ℕ, Bool, true, false, ◌&&◌, ◌||◌, List, [], ◌∷◌, slice_get, Option, Some, None}
+-- Typed trees that are written to or passed to functions, and that what names stand for is part of what trees are formed
+-- over.
+use Rattle.std.specs.Prelude.{◌≡◌, ℕ, Bool, true, false, ◌&&◌, List, [], ◌∷◌, slice_get, Option, Some, None}
 use Rattle.c_ir.specs.declared.ty.IntType.{IntType}
 use Rattle.c_ir.specs.declared.tree.Expr.{Expr}
-use Rattle.c_ir.specs.Formed.{Layout, Callee, Form, form, cell_is, cells_are, is_read_as, on_some}
+use Rattle.c_ir.specs.Formed.{Layout, Callee, form, cell_is, cells_are, is_read_as, on_some}
 use Rattle.c_ir.specs.Types.{same_type}
 use Rattle.c_rules.specs.declared.scope.Array.{Array}
 use Rattle.c_rules.specs.declared.scope.Entry.{Entry}
 use Rattle.c_rules.specs.declared.scope.Entry.TheVariants as E
 use Rattle.c_rules.specs.declared.scope.Object.{Object}
 use Rattle.c_rules.specs.declared.scope.Signature.{Signature}
-use Rattle.c_rules.specs.declared.scope.Place.{Place}
-use Rattle.c_rules.specs.declared.scope.Place.TheVariants as P
+use Rattle.c_ir.specs.declared.place.Place.TheVariants as P
+use Rattle.c_ir.specs.Placed.{is_formed}
 use Rattle.c_rules.specs.Breaches.{Env}
 
--- ---- trees in their places
-
--- part of another expression is no call and no assignment, a value may be a call, a statement may be any of them
-abbrev pub is_placed : Place → Form → Bool
-is_placed P.Inner f = f.plain
-is_placed P.Value f = f.plain || f.call
-is_placed P.Dropped f = f.plain || (f.call || f.assign)
-
--- the tree is well formed and may stand there
-unfoldable pub is_formed : Layout → Place → Expr → Bool
-is_formed l place e = (form l e).value && is_placed place (form l e)
+-- ---- trees
 
 -- the tree is a well formed target, and nothing in it is a call or an assignment
 unfoldable pub is_target : Layout → Expr → Bool

@@ -1,10 +1,9 @@
 -- How single constructs are typed (C11 6.3, 6.4.4, 6.5), and which numbers their checked operators get, in order of
 -- evaluation.
-use Rattle.std.specs.Prelude.{ℕ, ◌+◌, ◌==◌, nat_lt, Bool, true, false, not, ◌&&◌, ◌||◌, if◌then◌else◌, List, [], ◌∷◌, ◌++◌, length, Option, Some, None, is_some, Result, Ok, Err, ◌≡◌, ℤ, pos}
+use Rattle.std.specs.Prelude.{ℕ, ◌+◌, ◌==◌, nat_lt, Bool, false, not, ◌&&◌, ◌||◌, if◌then◌else◌, List, [], ◌∷◌, ◌++◌, length, Option, Some, None, is_some, Result, Ok, Err, ◌≡◌, pos}
 use Rattle.std.specs.declared.alloc.AllocError.{AllocError}
 use Rattle.fc_base.specs.declared.ids.PointId.{PointId}
 use Rattle.fc_base.specs.declared.ids.SiteId.{SiteId}
-use Rattle.fc_base.specs.declared.ids.FnId.{FnId}
 use Rattle.fc_base.specs.declared.syntax.LiteralForm.{LiteralForm}
 use Rattle.fc_base.specs.declared.syntax.LiteralForm.TheVariants as L
 use Rattle.fc_base.specs.declared.syntax.BinaryOp.{BinaryOp}
@@ -15,7 +14,6 @@ use Rattle.c_ir.specs.declared.ty.IntType.{IntType}
 use Rattle.c_ir.specs.declared.ty.IntType.TheVariants as T
 use Rattle.c_ir.specs.declared.kind.AlarmKind.{AlarmKind}
 use Rattle.c_ir.specs.declared.tree.Checks.{Checks}
-use Rattle.c_ir.specs.declared.tree.Node.{Node}
 use Rattle.c_ir.specs.declared.tree.Node.TheVariants as N
 use Rattle.c_ir.specs.declared.tree.Expr.{Expr}
 use Rattle.c_ir.specs.declared.tree.SiteInfo.{SiteInfo}
@@ -27,7 +25,7 @@ use Rattle.c_rules.specs.declared.scope.Entry.TheVariants as E
 use Rattle.c_rules.specs.declared.scope.Object.{Object}
 use Rattle.c_rules.specs.declared.scope.Array.{Array}
 use Rattle.c_rules.specs.declared.scope.Signature.{Signature}
-use Rattle.c_rules.specs.declared.scope.Place.{Place}
+use Rattle.c_ir.specs.declared.place.Place.{Place}
 use Rattle.c_rules.specs.Breaches.{Env, is_inner, is_dropped}
 
 -- ---- sites

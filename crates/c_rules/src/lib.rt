@@ -23,5 +23,5 @@ pub use name::{
     name_target, name_value, note_call,
 };
 pub use operator::{assigned, binary, cast, choice, converted, unary};
-pub use scope::{Array, Entry, Object, Place, Signature};
+pub use scope::{Array, Entry, Object, Signature};
 pub use specifiers::{SpecType, is_constant, spec_type};

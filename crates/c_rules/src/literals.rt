@@ -8,9 +8,9 @@ ghost use Rattle.c_ir.specs.Trees.{constant, zero_expr};
 ghost use Rattle.c_ir.specs.declared.tree.SiteInfo.{SiteInfo as Info};
 ghost use Rattle.fc_base.specs.declared.ids.PointId.{PointId as Point};
 ghost use Rattle.c_rules.specs.Breaches.{least, only_if};
-ghost use Rattle.c_rules.specs.Fits.{is_formed};
+ghost use Rattle.c_ir.specs.Placed.{is_formed};
 ghost use Rattle.c_rules.specs.Typing as spec;
-ghost use Rattle.c_rules.specs.declared.scope.Place.{Place};
+ghost use Rattle.c_ir.specs.declared.place.Place.{Place};
 ghost use Rattle.c_rules.specs.declared.breach.Fault.TheVariants as Kind;
 
 use crate::breach::Fault;

@@ -8,11 +8,12 @@ ghost use Rattle.c_ir.specs.Trees.{site_of};
 ghost use Rattle.c_ir.specs.declared.tree.SiteInfo.{SiteInfo as Info};
 ghost use Rattle.fc_base.specs.declared.ids.PointId.{PointId as Point};
 ghost use Rattle.c_rules.specs.Breaches.{is_dropped};
-ghost use Rattle.c_rules.specs.Fits.{is_formed, is_target};
+ghost use Rattle.c_rules.specs.Fits.{is_target};
+ghost use Rattle.c_ir.specs.Placed.{is_formed};
 ghost use Rattle.c_rules.specs.Typing as spec;
 ghost use Rattle.c_rules.specs.Typing.{Types};
-ghost use Rattle.c_rules.specs.declared.scope.Place.{Place};
-ghost use Rattle.c_rules.specs.declared.scope.Place.TheVariants.{Inner, Value};
+ghost use Rattle.c_ir.specs.declared.place.Place.{Place};
+ghost use Rattle.c_ir.specs.declared.place.Place.TheVariants.{Inner, Value};
 
 use crate::found::Found;
 use c_ir::{Expr, IntType, Node, binary_checks, unary_checks};

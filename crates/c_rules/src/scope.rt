@@ -1,4 +1,4 @@
-//! What names stand for, and where expressions stand.
+//! What names stand for.
 
 use c_ir::IntType;
 use fc_base::FnId;
@@ -51,15 +51,4 @@ pub struct Signature {
 pub enum Entry {
     Object(Object),
     Function(Signature),
-}
-
-/// Where an expression stands.
-#[derive(Clone, Copy, Debug, PartialEq, Eq)]
-pub enum Place {
-    /// It is a statement, and its value is dropped.
-    Dropped,
-    /// It is the value of an initialiser, of a `return`, or of an assignment that is a statement.
-    Value,
-    /// It is part of another expression.
-    Inner,
 }

@@ -2,8 +2,9 @@
 use Rattle.std.proofs.Common.{◌∙◌, Option, Some, None, Result, Ok, Err, sym, arith}
 use Rattle.c_ir.specs.declared.program.Skeleton.{Skeleton}
 use Rattle.c_rules.specs.declared.breach.Breach.{Breach}
-use Rattle.c_types.specs.FileScope.{Declared}
-use Rattle.c_types.specs.Programs.{FirstRecursive, Judges, OneProgram, Repeats, first_breach, walk_of}
+use Rattle.c_typing.specs.FileScope.{Declared}
+use Rattle.c_types.specs.Programs.{FirstRecursive, Judges, OneProgram, Repeats}
+use Rattle.c_typing.specs.Texts.{first_breach, walk_of}
 use Rattle.c_types.specs.declared.fault.TypeFault.{TypeFault}
 use Rattle.c_types.specs.declared.fault.TypeFault.TheVariants as T
 

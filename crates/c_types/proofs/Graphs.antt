@@ -4,7 +4,8 @@ use Rattle.std.specs.Prelude.{nat_lt, slice_get, if◌then◌else◌}
 use Rattle.std.specs.Option.{option_map}
 use Rattle.std.proofs.lemmas.Bool.{ltb-true}
 use Rattle.c_ir.specs.declared.tree.Fun.{Fun}
-use Rattle.c_types.specs.Programs.{FirstRecursive, below, calls_in, graph, graph_to}
+use Rattle.c_types.specs.Programs.{FirstRecursive, below, graph, graph_to}
+use Rattle.c_ir.specs.Keeps.{calls_in}
 use Rattle.call_cycles.specs.Calls.{FirstOnCycle, Graph, InRange}
 
 step : (n f : ℕ) (rest : List ℕ) (i : ℕ) (b : Bool) → nat_lt f n ≡ b → ((j : ℕ) → j < length rest → get_or rest j 0 < n) → i < length (if b then f ∷ rest else rest) → get_or (if b then f ∷ rest else rest) i 0 < n

@@ -1,12 +1,3 @@
-pub mod ConstantValues
-pub mod Declarations
-pub mod FileScope
-pub mod First
-pub mod Functions
-pub mod Meaning
+pub mod Noted
 pub mod Programs
-pub mod Room
-pub mod Statements
-pub mod Texts
-pub mod Walking
 pub mod inner

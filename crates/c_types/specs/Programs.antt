@@ -4,22 +4,20 @@ use Rattle.std.specs.Prelude.{◌≡◌, ◌<◌, ◌≤◌, ◌+◌, ℕ, true,
 use Rattle.std.specs.Option.{option_map}
 use Rattle.fc_base.specs.declared.ids.FnId.{FnId}
 use Rattle.c_ast.specs.declared.unit.Unit.{Unit as Text}
-use Rattle.c_ir.specs.Calls.{calls_of_stmts}
+use Rattle.c_ir.specs.Keeps.{calls_in}
 use Rattle.c_ir.specs.declared.program.Skeleton.{Skeleton}
 use Rattle.c_ir.specs.declared.tree.CellInfo.{CellInfo}
 use Rattle.c_ir.specs.declared.tree.Fun.{Fun}
-use Rattle.c_ir.specs.declared.tree.Stmt.{Stmt}
-use Rattle.c_rules.specs.Breaches.{least}
 use Rattle.c_rules.specs.declared.breach.Breach.{Breach}
 use Rattle.c_rules.specs.declared.breach.Fault.{Fault}
 use Rattle.c_rules.specs.declared.breach.Fault.TheVariants as B
-use Rattle.c_types.specs.FileScope.{Declared, Filed}
-use Rattle.c_types.specs.Texts.{items_from, funs_from}
-use Rattle.c_types.specs.Walking.{Went}
+use Rattle.c_typing.specs.FileScope.{Declared}
+use Rattle.c_typing.specs.Texts.{funs_from, first_breach, walk_of}
+use Rattle.c_typing.specs.Walking.{Went}
 use Rattle.c_types.specs.declared.fault.TypeFault.{TypeFault}
 use Rattle.c_types.specs.declared.fault.TypeFault.TheVariants as T
-use Rattle.c_types.specs.declared.file.Start.{Start}
-use Rattle.c_types.specs.declared.walk.Allocated.{Allocated}
+use Rattle.c_typing.specs.declared.file.Start.{Start}
+use Rattle.c_typing.specs.declared.walk.Allocated.{Allocated}
 use Rattle.call_cycles.specs.Calls.{Graph, FirstOnCycle}
 
 -- ---- cells
@@ -76,10 +74,6 @@ abbrev pub below : ℕ → List ℕ → List ℕ
 below n [] = []
 below n (f ∷ fs) = if nat_lt f n then f ∷ below n fs else below n fs
 
-abbrev pub calls_in : Option (List Stmt) → List ℕ
-calls_in None = []
-calls_in (Some ss) = calls_of_stmts ss
-
 abbrev pub graph_to : ℕ → List Fun → Graph
 graph_to n [] = []
 graph_to n (f ∷ fs) = below n (calls_in f.body) ∷ graph_to n fs
@@ -89,23 +83,6 @@ abbrev pub graph : List Fun → Graph
 graph fs = graph_to (length fs) fs
 
 -- ---- texts
-
--- at the beginning of a text nothing is declared
-abbrev pub nothing : Declared
-nothing = record {
-  names = record { env = λ x. None; declared = [] };
-  made = record { sites = []; points = []; objects = []; cells = 0; notes = [] };
-  functions = [];
-  definitions = [];
-  starts = [];
-  constants = [];
-}
-
-abbrev pub walk_of : Text → Filed (Unit {0})
-walk_of u = items_from [] u.items nothing
-
-abbrev pub first_breach : Text → Option Breach
-first_breach u = least None (walk_of u).breaches
 
 abbrev pub functions_of : Declared → Went (List Fun)
 functions_of d = funs_from 0 d.functions d.definitions [] d.names d.made

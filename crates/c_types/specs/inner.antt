@@ -1,2 +1,3 @@
--- What the code's loops keep: no public contract cites it.
-pub mod Goes
+-- What the proofs on typed trees and programs go by: no public contract cites it.
+pub mod Expressions
+pub mod Keeping

@@ -1,60 +1,28 @@
-//! Whole texts.
+//! The program of a text.
 
-ghost use Rattle.std.specs.Prelude.{◌≡◌, ◌+◌, ◌*◌, ◌<◌, ◌≤◌, ◌^◌, ℕ, None, length};
+ghost use Rattle.std.specs.Prelude.{◌+◌, ◌*◌, ◌<◌, ◌≤◌, ◌^◌, IfOk, length};
 ghost use Rattle.c_ast.specs.Weight.{weight_of_unit};
-ghost use Rattle.c_types.specs.FileScope.{declared_of};
-ghost use Rattle.c_types.specs.Functions.{AreRoomy};
-ghost use Rattle.c_types.specs.Programs.{Checks, Finishes, nothing};
-ghost use Rattle.c_types.specs.Texts.{HasFileRoom};
-ghost use Rattle.c_types.specs.Walking.{names_of};
+ghost use Rattle.c_types.specs.Noted.{NotesFit};
+ghost use Rattle.c_typing.specs.FileScope.{declared_of};
+ghost use Rattle.c_types.specs.Programs.{Checks, Finishes};
+ghost use Rattle.c_types.specs.inner.Keeping.{KeepsIfCallsEnd};
 
-use crate::definitions::{first_recursive, functions};
+use crate::cycles::first_recursive;
 use crate::fault::{TypeFault, fault_of};
-use crate::file::File;
-use crate::scope::Scope;
 use crate::storage::cells;
-use crate::text::items;
-use crate::walk::Walk;
 use c_ast::Unit;
 use c_ir::{Program, Skeleton};
-use c_rules::Found;
-use shared_list::SharedList;
-use sqlite_items::Items;
+use c_typing::{File, Walk, functions, walked};
 use std::alloc::Global;
-use std::collections::BTreeMap;
 
 /// The most cells that a program has.
 const MOST_CELLS: u32 = 4096;
 
-/// At the beginning of a text nothing is declared.
-fn begin(alloc: Global) -> File
-    ensures declared { declared_of result ≡ nothing }
-    ensures first { result.walk.found.first ≡ None }
-    ensures roomy { AreRoomy (names_of result.scope).env }
-    ensures room { (n : ℕ) → n < 2 ^ 32 → HasFileRoom n result }
-{
-    File {
-        scope: Scope {
-            names: BTreeMap::new(alloc),
-            declared: SharedList::new(),
-        },
-        walk: Walk {
-            found: Found::new(alloc),
-            points: Items::new(alloc),
-            objects: Items::new(alloc),
-            cells: 0,
-            notes: Items::new(alloc),
-        },
-        functions: Items::new(alloc),
-        definitions: Vec::new(alloc),
-        starts: Items::new(alloc),
-        constants: Items::new(alloc),
-    }
-}
-
 /// The program of what is declared, which is without breach.
+#[tactic(auto, using(crate::proofs::Programs::made_keeps))]
 fn finish(alloc: Global, file: File) -> Result<Skeleton, TypeFault>
-    requires { length file.walk.points + 2 * length file.functions < 2 ^ 32 }
+    requires room { length file.walk.points + 2 * length file.functions < 2 ^ 32 }
+    requires keeps { KeepsIfCallsEnd (declared_of file) }
     ensures { Finishes (declared_of file) result }
 {
     let File {
@@ -103,13 +71,15 @@ fn finish(alloc: Global, file: File) -> Result<Skeleton, TypeFault>
 /// 4,096 cells: one for each scalar, each element of an array and each result. `Memory` is answered only for want of
 /// memory. The tree is that of a text of at most 4 MiB. A typed expression is as deep as its tree, and this recurses as
 /// deep.
-#[tactic(auto, using(crate::proofs::Rooms::text_room))]
+///
+/// The cells of each object that a note can use are among the program's cells, and are of file scope or of the function
+/// of the note (C11 6.2.1).
 pub fn check(alloc: Global, unit: &Unit) -> Result<Skeleton, TypeFault>
     requires { weight_of_unit unit.now ≤ 4194304 }
-    ensures { Checks unit.now result }
+    ensures answer { Checks unit.now result }
+    ensures notes { IfOk result (λ s. NotesFit s.program.cells s.notes) }
 {
-    let mut file = begin(alloc);
-    items(alloc, &mut file, unit.items.as_slice())?;
+    let mut file = walked(alloc, unit)?;
     match file.walk.found.first.take() {
         Some(breach) => Err(fault_of(breach)),
         None => finish(alloc, file),

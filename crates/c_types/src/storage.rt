@@ -3,9 +3,8 @@
 ghost use Rattle.std.specs.Prelude.{◌≡◌, ◌++◌, replicate, IfOk};
 ghost use Rattle.c_types.specs.Programs as spec;
 
-use crate::file::Start;
-use crate::walk::Allocated;
 use c_ir::{CellInfo, CellInfos};
+use c_typing::{Allocated, Start};
 use fc_base::FnId;
 use sqlite_items::Items;
 use std::alloc::{AllocError, Global};

@@ -1,6 +1,6 @@
 use Rattle.std.proofs.Common.{rules, ◌≡◌, true, subst, sym}
 use Rattle.c_ir.specs.declared.tree.Expr.{Expr}
-use Rattle.c_rules.specs.Fits.{is_formed}
+use Rattle.c_ir.specs.Placed.{is_formed}
 use Rattle.c_rules.specs.Typing.{literal, literal_type}
 use Rattle.c_rules.proofs.Formed.{literal_formed}
 use Rattle.c_rules.proofs.literals.literal.Goals as goal

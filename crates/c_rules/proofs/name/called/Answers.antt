@@ -1,6 +1,6 @@
 use Rattle.std.proofs.Common.{rules, ◌≡◌, true, subst}
 use Rattle.c_ir.specs.declared.tree.Expr.{Expr}
-use Rattle.c_rules.specs.Fits.{is_formed}
+use Rattle.c_ir.specs.Placed.{is_formed}
 use Rattle.c_rules.specs.Typing as rule
 use Rattle.c_rules.proofs.Named.{called_formed}
 use Rattle.c_rules.proofs.name.called.Goals as goal

@@ -6,4 +6,4 @@ use Rattle.kernel_serve.proofs.front.typed.Goals as goal
 
 pub returns-in-Err : goal.returns-in-Err
 returns-in-Err c =
-    subst (λ (s : Status). IsTypesAnswer c.args.tree.now.items (Err s)) (sym c.type_status.ensures) (no_types c.one_program.ensures c.args.tree.now.items c.in-Err.fault c.in-Err.ensures)
+    subst (λ (s : Status). IsTypesAnswer c.args.tree.now.items (Err s)) (sym c.type_status.ensures) (no_types c.one_program.ensures c.args.tree.now.items c.in-Err.fault c.in-Err.ensures.answer)

@@ -1,4 +1,0 @@
-pub mod Bodies
-pub mod Keeps
-pub mod Laws
-pub mod inner

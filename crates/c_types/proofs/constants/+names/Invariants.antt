@@ -1,6 +1,0 @@
-use Rattle.std.proofs.Common.{◌≡◌, map, drop}
-use Rattle.c_types.specs.ConstantValues.{form, some_name}
-use Rattle.c_types.proofs.constants.+names.Given as goal
-
-abbrev pub invariant-some_name-loop-e : goal.invariant-some_name-loop-e
-invariant-some_name-loop-e l = some_name (map form (drop l.e-index l.all)) ≡ some_name (map form l.all)

@@ -1,0 +1,10 @@
+pub mod Args
+pub mod Puts
+pub mod Ending
+pub mod Least
+pub mod Noting
+pub mod Numbering
+pub mod Roomy
+pub mod Rooms
+pub mod Rows
+pub mod Undoing

@@ -1,0 +1,11 @@
+pub mod ConstantValues
+pub mod Declarations
+pub mod FileScope
+pub mod First
+pub mod Functions
+pub mod Meaning
+pub mod Room
+pub mod Statements
+pub mod Texts
+pub mod Walking
+pub mod inner

@@ -1,0 +1,2 @@
+-- What the code's loops keep: no public contract cites it.
+pub mod Goes
