@@ -1,0 +1,12 @@
+pub mod Answers
+pub mod Bodies
+pub mod Clauses
+pub mod Functions
+pub mod Kept
+pub mod Law
+pub mod Nexts
+pub mod Outside
+pub mod Positions
+pub mod Sets
+pub mod Sites
+pub mod Steps

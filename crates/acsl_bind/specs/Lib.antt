@@ -1,0 +1,4 @@
+pub mod Notes
+pub mod Placing
+pub mod Programs
+pub mod inner

@@ -1,0 +1,4 @@
+pub mod Formed
+pub mod Least
+pub mod Newest
+pub mod Sorts

@@ -1,0 +1,7 @@
+pub mod Breaches
+pub mod Clauses
+pub mod First
+pub mod Fits
+pub mod Meaning
+pub mod Names
+pub mod inner

@@ -1,0 +1,4 @@
+pub mod Nodes
+pub mod Ranges
+pub mod Sights
+pub mod Sums

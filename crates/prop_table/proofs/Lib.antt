@@ -1,0 +1,11 @@
+pub mod Claims
+pub mod Counting
+pub mod Deads
+pub mod Fitting
+pub mod Lists
+pub mod Names
+pub mod Numbering
+pub mod Owning
+pub mod Places
+pub mod Ranges
+pub mod Together

@@ -1,0 +1,5 @@
+pub mod Counts
+pub mod Fitting
+pub mod Index
+pub mod Numbered
+pub mod Sorting

@@ -1,0 +1,77 @@
+//! What a program has at each point, found once for all points.
+
+ghost use Rattle.std.specs.Prelude.{◌≡◌, ◌≤◌, ◌^◌, IfOk, length, get_or};
+ghost use Rattle.prop_table.specs.Points.{noted_sites, requires_at};
+
+use crate::by_point::{ByPoint, Noted};
+use crate::calls::calls_in;
+use crate::operators::see_fns;
+use crate::preconditions::counts;
+use c_ir::{Program, SiteInfo};
+use sqlite_items::Items;
+use std::alloc::{AllocError, Global};
+
+/// The operators and the callees at each point, and how many preconditions each function has.
+#[derive(Drop)]
+pub(crate) struct Index {
+    pub(crate) sites: ByPoint,
+    pub(crate) calls: ByPoint,
+    preconditions: Items<usize>,
+}
+
+impl Index {
+    ghost use Rattle.prop_table.specs.inner.Index.{IsIndex};
+
+    /// The index of a program.
+    pub(crate) fn new(alloc: Global, program: &Program) -> Result<Index, AllocError>
+        ensures { IfOk result (λ i. IsIndex program.now i) }
+    {
+        let points = program.points.len();
+        let operators = sites_in(alloc, program)?;
+        let callees = calls_in(alloc, program.fns.as_slice())?;
+        let sites = ByPoint::new(alloc, points, operators.as_slice())?;
+        let calls = ByPoint::new(alloc, points, callees.as_slice())?;
+        let preconditions = counts(alloc, program)?;
+        Ok(Index {
+            sites,
+            calls,
+            preconditions,
+        })
+    }
+
+    /// How many preconditions the function with this number has.
+    pub(crate) fn requires_of(&self, program: &Program, function: u32) -> usize
+        requires { IsIndex program.now self.now }
+        ensures { result ≡ length (requires_at program.now function) }
+    {
+        match self.preconditions.get(function as usize) {
+            None => 0,
+            Some(count) => *count,
+        }
+    }
+}
+
+/// The operators of a program, each at its point.
+fn sites_in(alloc: Global, program: &Program) -> Result<Items<Noted>, AllocError>
+    ensures { IfOk result (λ ms. ms ≡ noted_sites 0 program.now.sites) }
+{
+    program.keeps();
+    let fns = program.fns.as_slice();
+    see_fns(fns);
+    let sites = program.sites.as_slice();
+    number_sites(alloc, sites)
+}
+
+fn number_sites(alloc: Global, sites: &[SiteInfo]) -> Result<Items<Noted>, AllocError>
+    requires { length sites.now ≤ 2 ^ 32 }
+    ensures { IfOk result (λ ms. ms ≡ noted_sites 0 sites.now) }
+{
+    let mut noted = Items::new(alloc);
+    for number in 0..sites.len() {
+        noted.push(Noted {
+            point: sites[number].point.0,
+            number: number as u32,
+        })?;
+    }
+    Ok(noted)
+}
