@@ -6,6 +6,9 @@ use Rattle.std.specs.Io.KnownBytes.{append_known}
 use Rattle.std.proofs.lemmas.List.{append-nil}
 use Rattle.std.proofs.lemmas.Option.{none-some, same_Some}
 use Rattle.c_front.specs.declared.tree.Unit.{Unit}
+use Rattle.c_ast.specs.declared.annot.Annot.{Annot}
+use Rattle.c_ast.specs.declared.unit.Item.{Item}
+use Rattle.c_front.specs.Program.{IsProgram}
 use Rattle.c_front.specs.Rows.{props_of}
 use Rattle.c_first_runs.specs.Run.{runs_of}
 use Rattle.c_first_runs.specs.RunLaws.{ProgramVerdictsAreTrue}
@@ -18,7 +21,7 @@ use Rattle.kernel_serve.specs.declared.status.Status.TheVariants as S
 use Rattle.kernel_serve.specs.Headline.{Complete, Outcome, Says, TrueReport}
 use Rattle.kernel_serve.specs.Limits.{most_script}
 use Rattle.kernel_serve.specs.Script.{changes_of}
-use Rattle.kernel_serve.specs.Stages.{AtChanges, AtFile, AtScript, AtWords, IsRead, IsTypedText, Works, history_of, report_of, type_refusal}
+use Rattle.kernel_serve.specs.Stages.{AtChanges, AtFile, AtScript, AtTypes, AtWords, IsRead, IsTypedText, Works, history_of, report_of, type_refusal}
 use Rattle.kernel_serve.specs.Told.{Files, WhereTold}
 use Rattle.kernel_serve.specs.Words.{Command, report_command}
 use Rattle.kernel_serve.specs.inner.Steps.{IsStop, OnlyReport, OnlyText, StopsAtFile}
@@ -139,17 +142,23 @@ not_done (T.ConstWrite at) e = absurd cc
 not_done (T.TooManyCells n) e = absurd cc
 not_done T.Memory e = absurd cc
 
+-- so is what comes after types, binding, the entry function and the table
+true_types : ProgramVerdictsAreTrue → (c : Command) (fs : Files) (out : List ℕ) (is : List Item) (xs : List Annot) → ((u : Unit) → AtScript (props_of u) (contents_of c.script fs) S.Done out → IsProgram (contents_of c.file fs) u → IsTypedText is xs → TrueReport c fs out) → AtTypes (contents_of c.file fs) is xs (λ u. AtScript (props_of u) (contents_of c.script fs)) S.Done out → TrueReport c fs out
+true_types law c fs out is xs on (inl (f, checks, memory, stops)) = absurd (not_done f stops.0)
+true_types law c fs out is xs on (inr (s, checks, inl fault)) = absurd cc
+true_types law c fs out is xs on (inr (s, checks, inr (p, binds, inl none))) = absurd cc
+true_types law c fs out is xs on (inr (s, checks, inr (p, binds, inr (main, inl many)))) = absurd cc
+true_types law c fs out is xs on (inr (s, checks, inr (p, binds, inr (main, inr (t, tables, inl none))))) = absurd cc
+true_types law c fs out is xs on (inr (s, checks, inr (p, binds, inr (main, inr (t, tables, inr (u, program, at)))))) =
+    on u at program (record { program = p; bound = record { skeleton = s; checks = checks; binds = binds }; enters = record { main = main; table = t; tables = tables } })
+
 true_report : ProgramVerdictsAreTrue → (c : Command) (fs : Files) (out : List ℕ) → AtFile fs c S.Done out → TrueReport c fs out
 true_report law c fs out (inl long) = absurd cc
 true_report law c fs out (inr (within, inl stuck)) = absurd cc
 true_report law c fs out (inr (within, inr (ts, lexes, inl fault))) = absurd cc
-true_report law c fs out (inr (within, inr (ts, lexes, inr (is, parses, inl (f, checks, memory, stops))))) =
-    absurd (not_done f stops.0)
-true_report law c fs out (inr (within, inr (ts, lexes, inr (is, parses, inr (s, checks, inl none))))) = absurd cc
-true_report law c fs out (inr (within, inr (ts, lexes, inr (is, parses, inr (s, checks, inr (main, inl none)))))) = absurd cc
-true_report law c fs out (inr (within, inr (ts, lexes, inr (is, parses, inr (s, checks, inr (main, inr (u, program, at))))))) =
-    let typed : IsTypedText is = record { skeleton = s; checks = checks; main = main } in
-    true_script law c fs out u (record { within = within; tokens = ts; lexes = lexes; items = is; parses = parses; typed = typed; is_program = program }) at
+true_report law c fs out (inr (within, inr (ts, lexes, inr (is, parses, inl fault)))) = absurd cc
+true_report law c fs out (inr (within, inr (ts, lexes, inr (is, parses, inr (xs, noted, at))))) =
+    true_types law c fs out is xs (λ u next program typed. true_script law c fs out u (record { within = within; tokens = ts; lexes = lexes; items = is; parses = parses; annots = xs; noted = noted; typed = typed; is_program = program }) next) at
 
 pub done_says : ProgramVerdictsAreTrue → (words : List (List ℕ)) (c : Command) (files : Option Files) (before after : Option (List ℕ)) (text : List ℕ) → report_command words ≡ Some c → IfSome files (λ fs. AtFile fs c S.Done text) → after ≡ append_known before text → WhereTold files before after (Says words S.Done)
 done_says law words c None before after text is at written = tt

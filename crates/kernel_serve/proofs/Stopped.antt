@@ -3,6 +3,9 @@ use Rattle.std.proofs.Common.{◌≡◌, inl, inr, ◌≤◌, ℕ, List, [], Opt
 use Rattle.std.specs.Prelude.{Result, Ok, Err}
 use Rattle.std.specs.Global.{Vec}
 use Rattle.std.proofs.lemmas.Option.{none-some, same_Some}
+use Rattle.c_ast.specs.declared.annot.Annot.{Annot}
+use Rattle.c_ast.specs.declared.unit.Item.{Item}
+use Rattle.c_ir.specs.Programs.{Program}
 use Rattle.c_ir.specs.Props.{Props}
 use Rattle.c_front.specs.declared.tree.Unit.{Unit}
 use Rattle.c_front.specs.Rows.{props_of}
@@ -11,7 +14,7 @@ use Rattle.status_history.specs.declared.history.Change.{Change}
 use Rattle.kernel_serve.specs.Asked.{HasProgram}
 use Rattle.kernel_serve.specs.Limits.{most_script}
 use Rattle.kernel_serve.specs.Script.{changes_of}
-use Rattle.kernel_serve.specs.Stages.{AtChanges, AtFile, AtLength, AtScript, IsRead, Next, report_of}
+use Rattle.kernel_serve.specs.Stages.{AtChanges, AtFile, AtLength, AtMain, AtScript, AtTypes, IsRead, Next, report_of}
 use Rattle.kernel_serve.specs.Told.{Files}
 use Rattle.kernel_serve.specs.Words.{Command}
 use Rattle.kernel_serve.specs.declared.status.Status.{Status}
@@ -19,22 +22,31 @@ use Rattle.kernel_serve.specs.declared.status.Status.TheVariants as S
 use Rattle.kernel_serve.specs.inner.Steps.{IsFileAnswer, IsScriptAnswer, OnlyReport, OnlyText, StopsAtFile, UnlessReadFault, nothing}
 
 -- what stops in the file's own stages stops, whatever comes after
+lift_main : (file : List ℕ) (p : Program) (next : Next) (status : Status) (out : List ℕ) → AtMain file p nothing status out → AtMain file p next status out
+lift_main file p next status out (inl none) = inl none
+lift_main file p next status out (inr (main, inl many)) = inr (main, inl many)
+lift_main file p next status out (inr (main, inr (t, tables, inl none))) = inr (main, inr (t, tables, inl none))
+lift_main file p next status out (inr (main, inr (t, tables, inr (u, program, at)))) = absurd at
+
+lift_types : (file : List ℕ) (is : List Item) (xs : List Annot) (next : Next) (status : Status) (out : List ℕ) → AtTypes file is xs nothing status out → AtTypes file is xs next status out
+lift_types file is xs next status out (inl fault) = inl fault
+lift_types file is xs next status out (inr (s, checks, inl fault)) = inr (s, checks, inl fault)
+lift_types file is xs next status out (inr (s, checks, inr (p, binds, at))) = inr (s, checks, inr (p, binds, lift_main file p next status out at))
+
 lift : (file : List ℕ) (next : Next) (status : Status) (out : List ℕ) → AtLength file nothing status out → AtLength file next status out
 lift file next status out (inl long) = inl long
 lift file next status out (inr (within, inl stuck)) = inr (within, inl stuck)
 lift file next status out (inr (within, inr (ts, lexes, inl fault))) = inr (within, inr (ts, lexes, inl fault))
 lift file next status out (inr (within, inr (ts, lexes, inr (is, parses, inl fault)))) = inr (within, inr (ts, lexes, inr (is, parses, inl fault)))
-lift file next status out (inr (within, inr (ts, lexes, inr (is, parses, inr (s, checks, inl none))))) =
-    inr (within, inr (ts, lexes, inr (is, parses, inr (s, checks, inl none))))
-lift file next status out (inr (within, inr (ts, lexes, inr (is, parses, inr (s, checks, inr (main, inl none)))))) =
-    inr (within, inr (ts, lexes, inr (is, parses, inr (s, checks, inr (main, inl none)))))
-lift file next status out (inr (within, inr (ts, lexes, inr (is, parses, inr (s, checks, inr (main, inr (u, program, at))))))) = absurd at
+lift file next status out (inr (within, inr (ts, lexes, inr (is, parses, inr (xs, noted, at))))) = inr (within, inr (ts, lexes, inr (is, parses, inr (xs, noted, lift_types file is xs next status out at))))
 
 -- a file that passes all its stages hands on
 through : (file : List ℕ) (u : Unit) (next : Next) (status : Status) (out : List ℕ) → IsRead file u → next u status out → AtLength file next status out
 through file u next status out read at =
     let t = read.typed in
-    inr (read.within, inr (read.tokens, read.lexes, inr (read.items, read.parses, inr (t.skeleton, t.checks, inr (t.main, inr (u, read.is_program, at))))))
+    let b = t.bound in
+    let e = t.enters in
+    inr (read.within, inr (read.tokens, read.lexes, inr (read.items, read.parses, inr (read.annots, read.noted, inr (b.skeleton, b.checks, inr (t.program, b.binds, inr (e.main, inr (e.table, e.tables, inr (u, read.is_program, at)))))))))
 
 file_stops : (fs : Files) (c : Command) (status : Status) → UnlessReadFault {A = Unit} (Err status) (IsFileAnswer (contents_of c.file fs) (Err status)) → StopsAtFile fs c status
 file_stops fs c S.ReadFault h = tt

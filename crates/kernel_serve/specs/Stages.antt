@@ -1,6 +1,13 @@
 -- The work of a call, stage by stage: `Works`, what it ends with and writes where nothing outside fails and there is
 -- memory. Each stage ends the call or hands on to the next one (this project's own).
 use Rattle.std.specs.Prelude.{◌≡◌, ◌≢◌, ◌⊎◌, ◌+◌, ◌<◌, ◌≤◌, ℕ, Bool, true, false, ◌&&◌, ◌||◌, List, [], ◌∷◌, Option, None, Some, Err, Ok, length, is_some, bytes_eq, codes}
+use Rattle.acsl_bind.specs.Programs.{Binds}
+use Rattle.acsl_bind.specs.declared.fault.BindFault.{BindFault}
+use Rattle.acsl_bind.specs.declared.fault.BindFault.TheVariants as B
+use Rattle.acsl_notes.specs.Notes.{AreAnnots, IsFirstFault, notes_of}
+use Rattle.acsl_read.specs.declared.text.AcslFault.{AcslFault}
+use Rattle.acsl_read.specs.declared.text.AcslFault.TheVariants as A
+use Rattle.c_ast.specs.declared.annot.Annot.{Annot}
 use Rattle.c_ast.specs.declared.unit.Item.{Item}
 use Rattle.c_ast.specs.declared.unit.Unit.{Unit as Text}
 use Rattle.c_lex.specs.Tokens.{Lexes, Stuck}
@@ -12,6 +19,7 @@ use Rattle.c_parse.specs.declared.text.ParseFault.TheVariants as P
 use Rattle.kernel_serve.specs.Limits.{most_file, most_script}
 use Rattle.kernel_serve.specs.declared.status.LimitFault.TheVariants as Limit
 use Rattle.param_book.specs.Table.{opening_values}
+use Rattle.c_ir.specs.Programs.{Program}
 use Rattle.c_ir.specs.Props.{Props}
 use Rattle.c_ir.specs.declared.program.Skeleton.{Skeleton}
 use Rattle.c_ir.specs.declared.tree.Fun.{Fun}
@@ -22,6 +30,8 @@ use Rattle.c_front.specs.declared.tree.Unit.{Unit}
 use Rattle.c_front.specs.Program.{IsProgram}
 use Rattle.c_front.specs.Rows.{props_of}
 use Rattle.fc_outside.specs.Contents.{contents_of}
+use Rattle.prop_table.specs.Tables.{Tables}
+use Rattle.prop_table.specs.declared.fault.TableFault.TheVariants as Many
 use Rattle.report_print.specs.Report.{report_text}
 use Rattle.status_history.specs.declared.history.Change.{Change}
 use Rattle.status_history.specs.declared.history.History.{History}
@@ -83,11 +93,23 @@ abbrev pub has_main : List Fun → Bool
 has_main [] = false
 has_main (f ∷ fs) = is_main f || has_main fs
 
+-- the table: the program has few enough properties, or it is refused
+abbrev pub AtTable : List ℕ → Program → Next → Status → List ℕ → Type 0
+AtTable file p next status out =
+    ((n : ℕ) × Tables p (Err (Many.TooManyProps n)) × StopsBy (S.Limit (Limit.TooManyProps n)) status out)
+    ⊎ ((t : Props) × Tables p (Ok t) × AtSmall file next status out)
+
 -- the entry function: the program defines `main`, or the file is refused
-abbrev pub AtMain : List ℕ → Skeleton → Next → Status → List ℕ → Type 0
-AtMain file s next status out =
-    ((has_main s.program.fns ≡ false) × StopsBy (S.Refused (Fault.Types (T.Unknown (codes "main")))) status out)
-    ⊎ ((has_main s.program.fns ≡ true) × AtSmall file next status out)
+abbrev pub AtMain : List ℕ → Program → Next → Status → List ℕ → Type 0
+AtMain file p next status out =
+    ((has_main p.fns ≡ false) × StopsBy (S.Refused (Fault.Types (T.Unknown (codes "main")))) status out)
+    ⊎ ((has_main p.fns ≡ true) × AtTable file p next status out)
+
+-- binding: the annotations are bound to the program, or one is in breach
+abbrev pub AtBind : List ℕ → Skeleton → List Annot → Next → Status → List ℕ → Type 0
+AtBind file s annots next status out =
+    ((f : BindFault) × Binds s annots (Err f) × (f ≢ B.Memory) × StopsBy (S.Refused (Fault.Bind f)) status out)
+    ⊎ ((p : Program) × Binds s annots (Ok p) × AtMain file p next status out)
 
 -- types: the text has a program, or a breach, a recursive function or too many cells
 abbrev pub type_refusal : TypeFault → Status
@@ -97,16 +119,22 @@ type_refusal f = S.Refused (Fault.Types f)
 abbrev pub text_of : List Item → Text
 text_of items = record { items = items }
 
-abbrev pub AtTypes : List ℕ → List Item → Next → Status → List ℕ → Type 0
-AtTypes file items next status out =
+abbrev pub AtTypes : List ℕ → List Item → List Annot → Next → Status → List ℕ → Type 0
+AtTypes file items annots next status out =
     ((f : TypeFault) × Checks (text_of items) (Err f) × (f ≢ T.Memory) × StopsBy (type_refusal f) status out)
-    ⊎ ((s : Skeleton) × Checks (text_of items) (Ok s) × AtMain file s next status out)
+    ⊎ ((s : Skeleton) × Checks (text_of items) (Ok s) × AtBind file s annots next status out)
+
+-- the grammar of annotations: each note is one, or the reading of one stops
+abbrev pub AtNotes : List ℕ → List Token → List Item → Next → Status → List ℕ → Type 0
+AtNotes file tokens items next status out =
+    ((f : AcslFault) × IsFirstFault file (notes_of tokens) f × (f ≢ A.Memory) × StopsBy (S.Refused (Fault.Acsl f)) status out)
+    ⊎ ((annots : List Annot) × AreAnnots file annots (notes_of tokens) × AtTypes file items annots next status out)
 
 -- the grammar of C: the tokens are a text of C, or the reading stops
 abbrev pub AtParse : List ℕ → List Token → Next → Status → List ℕ → Type 0
 AtParse file tokens next status out =
     ((f : ParseFault) × IsFault file tokens f × (f ≢ P.Memory) × StopsBy (S.Refused (Fault.Parse f)) status out)
-    ⊎ ((items : List Item) × IsUnit file items tokens × AtTypes file items next status out)
+    ⊎ ((items : List Item) × IsUnit file items tokens × AtNotes file tokens items next status out)
 
 -- tokens: the file has tokens of C, or a first fault
 abbrev pub AtLex : List ℕ → Next → Status → List ℕ → Type 0
@@ -133,11 +161,23 @@ AtWords files (Some c) status out = AtFile files c status out
 abbrev pub Works : List (List ℕ) → Files → Status → List ℕ → Type 0
 Works words files status out = AtWords files (report_command words) status out
 
--- a text that has a program, with a defined `main`
-pub record IsTypedText (items : List Item) : Type 0 where
+-- a text and annotations that have this program
+pub record IsBound (items : List Item) (annots : List Annot) (p : Program) : Type 0 where
   pub skeleton : Skeleton
   pub checks : Checks (text_of items) (Ok skeleton)
-  pub main : has_main skeleton.program.fns ≡ true
+  pub binds : Binds skeleton annots (Ok p)
+
+-- a program that defines `main`, with few enough properties
+pub record Enters (p : Program) : Type 0 where
+  pub main : has_main p.fns ≡ true
+  pub table : Props
+  pub tables : Tables p (Ok table)
+
+-- a text and annotations that have such a program
+pub record IsTypedText (items : List Item) (annots : List Annot) : Type 0 where
+  pub program : Program
+  pub bound : IsBound items annots program
+  pub enters : Enters program
 
 -- What is read: a file that passes all its stages, of this program.
 pub record IsRead (file : List ℕ) (u : Unit) : Type 0 where
@@ -146,5 +186,7 @@ pub record IsRead (file : List ℕ) (u : Unit) : Type 0 where
   pub lexes : Lexes file tokens
   pub items : List Item
   pub parses : IsUnit file items tokens
-  pub typed : IsTypedText items
+  pub annots : List Annot
+  pub noted : AreAnnots file annots (notes_of tokens)
+  pub typed : IsTypedText items annots
   pub is_program : IsProgram file u

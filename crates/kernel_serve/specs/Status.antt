@@ -1,6 +1,10 @@
 -- What a program says of how a call ended: `exit_status`, `fault_text` (this project's own).
 use Rattle.std.specs.Prelude.{ℕ, List, [], ◌++◌, codes}
 use Rattle.std.specs.Fmt.{decimal}
+use Rattle.acsl_bind.specs.declared.fault.BindFault.{BindFault}
+use Rattle.acsl_bind.specs.declared.fault.BindFault.TheVariants as B
+use Rattle.acsl_read.specs.declared.text.AcslFault.{AcslFault}
+use Rattle.acsl_read.specs.declared.text.AcslFault.TheVariants as A
 use Rattle.c_lex.specs.declared.fault.LexFault.{LexFault}
 use Rattle.c_lex.specs.declared.fault.LexFault.TheVariants as L
 use Rattle.c_parse.specs.declared.text.ParseFault.{ParseFault}
@@ -57,17 +61,32 @@ types_text (T.ConstWrite at) = with_number (codes "refused: types ConstWrite ") 
 types_text (T.TooManyCells count) = with_number (codes "limit: TooManyCells ") count
 types_text T.Memory = codes "out of memory\n"
 
+unfoldable pub acsl_text : AcslFault → List ℕ
+acsl_text (A.NotAcsl at) = with_number (codes "refused: acsl NotAcsl ") at
+acsl_text (A.Unsupported word at) = codes "refused: acsl Unsupported " ++ (word ++ with_number (codes " ") at)
+acsl_text (A.TooDeep at) = with_number (codes "refused: acsl TooDeep ") at
+acsl_text A.Memory = codes "out of memory\n"
+
+unfoldable pub bind_text : BindFault → List ℕ
+bind_text (B.Unknown x) = with_name (codes "refused: bind Unknown ") x
+bind_text (B.NotHere at) = with_number (codes "refused: bind NotHere ") at
+bind_text (B.BadType at) = with_number (codes "refused: bind BadType ") at
+bind_text B.Memory = codes "out of memory\n"
+
 unfoldable pub limit_text : LimitFault → List ℕ
 limit_text (Limit.FileTooLong count) = with_number (codes "limit: FileTooLong ") count
 limit_text (Limit.ScriptTooLong count) = with_number (codes "limit: ScriptTooLong ") count
 limit_text (Limit.TooManyCells count) = with_number (codes "limit: TooManyCells ") count
+limit_text (Limit.TooManyProps count) = with_number (codes "limit: TooManyProps ") count
 
 -- the line that the program writes to standard error; none where all went well
 abbrev pub fault_text : Status → List ℕ
 fault_text S.Done = []
 fault_text (S.Refused (Fault.Lex fault)) = lex_text fault
 fault_text (S.Refused (Fault.Parse fault)) = parse_text fault
+fault_text (S.Refused (Fault.Acsl fault)) = acsl_text fault
 fault_text (S.Refused (Fault.Types fault)) = types_text fault
+fault_text (S.Refused (Fault.Bind fault)) = bind_text fault
 fault_text (S.Refused (Fault.Unbuilt Input.File)) = codes "refused: file Unbuilt\n"
 fault_text (S.Refused (Fault.Unbuilt Input.Script)) = codes "refused: script Unbuilt\n"
 fault_text S.Usage = codes "usage\n"

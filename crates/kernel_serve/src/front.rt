@@ -1,19 +1,24 @@
-//! The stages of a file: its length, its tokens, the grammar of C, its types, and the small language.
+//! The stages of a file: its length, its tokens, the grammar of C, that of annotations, its types, its binding, its
+//! entry function, its properties, and the small language.
 
 ghost use Rattle.std.specs.Prelude.{◌≡◌, ◌≤◌, IfErr, IfOk, length};
 ghost use Rattle.c_front.specs.Rows.{rows_of};
 ghost use Rattle.c_ast.specs.Weight.{weight_of_unit};
 ghost use Rattle.kernel_serve.specs.Stages.{IsRead, has_main, is_main};
-ghost use Rattle.kernel_serve.specs.inner.Steps.{IsFileAnswer, IsTypesAnswer, lex_status, parse_status, type_status};
+ghost use Rattle.kernel_serve.specs.inner.Steps.{IsBoundAnswer, IsEntryAnswer, IsFileAnswer, IsTypesAnswer, acsl_status, bind_status, lex_status, parse_status, type_status};
 
 use crate::status::{FrontFault, Input, LimitFault, Status};
-use c_ast::Unit as Tree;
+use acsl_bind::{BindFault, bind};
+use acsl_notes::notes;
+use acsl_read::AcslFault;
+use c_ast::{Annot, Unit as Tree};
 use c_front::{Unit, UnitFault, one_tree, unit};
-use c_ir::Fun;
+use c_ir::{Fun, Program};
 use c_lex::{LexFault, tokens};
 use c_parse::{ParseFault, parse};
 use c_types::{TypeFault, check, one_program};
 use fc_base::Name;
+use prop_table::{TableFault, table};
 use std::alloc::Global;
 
 /// The most bytes of a file.
@@ -36,10 +41,15 @@ pub(crate) fn unit_in(alloc: Global, bytes: &[u8]) -> Result<Unit, Status>
         Ok(tree) => tree,
         Err(fault) => return Err(parse_status(fault)),
     };
-    match typed(alloc, &tree) {
+    let annots = match notes(alloc, bytes, tokens.as_slice()) {
+        Ok(annots) => annots,
+        Err(fault) => return Err(acsl_status(fault)),
+    };
+    match typed(alloc, &tree, annots.as_slice()) {
         Ok(()) => (),
         Err(status) => return Err(status),
     }
+    drop(annots);
     drop(tree);
     match unit(alloc, bytes) {
         Ok(unit) => Ok(unit),
@@ -75,6 +85,32 @@ fn parse_status(fault: ParseFault) -> Status
             Status::Refused(FrontFault::Parse(ParseFault::Unsupported(word, at)))
         }
         ParseFault::TooDeep(at) => Status::Refused(FrontFault::Parse(ParseFault::TooDeep(at))),
+    }
+}
+
+/// How a call ends where a note of a file is no annotation.
+fn acsl_status(fault: AcslFault) -> Status
+    ensures { result ≡ acsl_status fault }
+{
+    match fault {
+        AcslFault::Memory => Status::Memory,
+        AcslFault::NotAcsl(at) => Status::Refused(FrontFault::Acsl(AcslFault::NotAcsl(at))),
+        AcslFault::Unsupported(word, at) => {
+            Status::Refused(FrontFault::Acsl(AcslFault::Unsupported(word, at)))
+        }
+        AcslFault::TooDeep(at) => Status::Refused(FrontFault::Acsl(AcslFault::TooDeep(at))),
+    }
+}
+
+/// How a call ends where a note of a file is in breach of the rules.
+fn bind_status(fault: BindFault) -> Status
+    ensures { result ≡ bind_status fault }
+{
+    match fault {
+        BindFault::Memory => Status::Memory,
+        BindFault::Unknown(name) => Status::Refused(FrontFault::Bind(BindFault::Unknown(name))),
+        BindFault::NotHere(at) => Status::Refused(FrontFault::Bind(BindFault::NotHere(at))),
+        BindFault::BadType(at) => Status::Refused(FrontFault::Bind(BindFault::BadType(at))),
     }
 }
 
@@ -116,21 +152,51 @@ fn has_main(all: &[Fun]) -> bool
     false
 }
 
-/// Whether a text has a program with a defined `main`; refused where it doesn't.
-fn typed(alloc: Global, tree: &Tree) -> Result<(), Status>
+/// The program of a text and its annotations; refused where there is none.
+#[tactic(auto, using(crate::proofs::Fronted::no_types, crate::proofs::Fronted::no_binding, crate::proofs::Fronted::is_bound))]
+fn bound(alloc: Global, tree: &Tree, annots: &[Annot]) -> Result<Program, Status>
     requires { weight_of_unit tree.now ≤ 4194304 }
-    ensures { IsTypesAnswer tree.now.items result }
+    ensures { IsBoundAnswer tree.now.items annots.now result }
 {
     one_program();
     let skeleton = match check(alloc, tree) {
         Ok(skeleton) => skeleton,
         Err(fault) => return Err(type_status(fault)),
     };
-    if has_main(skeleton.program.fns.as_slice()) {
-        return Ok(());
+    match bind(alloc, skeleton, annots) {
+        Ok(program) => Ok(program),
+        Err(fault) => Err(bind_status(fault)),
     }
-    match Name::new(alloc, "main") {
-        Ok(name) => Err(Status::Refused(FrontFault::Types(TypeFault::Unknown(name)))),
-        Err(_) => Err(Status::Memory),
+}
+
+/// Whether a program defines `main` and has few enough properties; refused where it doesn't.
+#[tactic(auto, using(crate::proofs::Fronted::too_many, crate::proofs::Fronted::few))]
+fn entered(alloc: Global, program: &Program) -> Result<(), Status>
+    ensures { IsEntryAnswer program.now result }
+{
+    if !has_main(program.fns.as_slice()) {
+        return match Name::new(alloc, "main") {
+            Ok(name) => Err(Status::Refused(FrontFault::Types(TypeFault::Unknown(name)))),
+            Err(_) => Err(Status::Memory),
+        };
+    }
+    match table(alloc, program) {
+        Ok(_) => Ok(()),
+        Err(TableFault::TooManyProps(count)) => {
+            Err(Status::Limit(LimitFault::TooManyProps(count)))
+        }
+        Err(TableFault::Memory) => Err(Status::Memory),
+    }
+}
+
+/// Whether a text and its annotations have such a program; refused where they don't.
+#[tactic(auto, using(crate::proofs::Fronted::entry_found, crate::proofs::Fronted::not_bound))]
+fn typed(alloc: Global, tree: &Tree, annots: &[Annot]) -> Result<(), Status>
+    requires { weight_of_unit tree.now ≤ 4194304 }
+    ensures { IsTypesAnswer tree.now.items annots.now result }
+{
+    match bound(alloc, tree, annots) {
+        Ok(program) => entered(alloc, &program),
+        Err(status) => Err(status),
     }
 }

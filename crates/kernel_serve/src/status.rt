@@ -1,8 +1,10 @@
 //! How a call ends.
 
-ghost use Rattle.std.specs.Prelude.{◌≡◌, IfOk};
-ghost use Rattle.kernel_serve.specs.Status.{exit_status, fault_text, lex_text, parse_text, types_text, limit_text, with_name};
+ghost use Rattle.std.specs.Prelude.{◌≡◌, ◌++◌, IfOk, codes};
+ghost use Rattle.kernel_serve.specs.Status.{exit_status, fault_text, lex_text, parse_text, acsl_text, types_text, bind_text, limit_text, with_name, with_number};
 
+use acsl_bind::BindFault;
+use acsl_read::AcslFault;
 use c_lex::LexFault;
 use c_parse::ParseFault;
 use c_types::TypeFault;
@@ -25,9 +27,14 @@ pub enum FrontFault {
     Lex(LexFault),
     /// The file's tokens are no program (C11 6.5 to 6.9, cut down); the fault is never its Memory.
     Parse(ParseFault),
+    /// A note of the file is no annotation (ACSL manual, cut down); the fault is never its Memory.
+    Acsl(AcslFault),
     /// The file's text has no program (C11 6.3, 6.5 to 6.9), or `main` isn't defined, which is Unknown. The fault is
     /// never its Memory or TooManyCells.
     Types(TypeFault),
+    /// A note of the file is in breach of the rules of annotations (ACSL manual, function contracts, loop annotations,
+    /// terms and predicates); the fault is never its Memory.
+    Bind(BindFault),
     /// It isn't of the forms that are built so far.
     Unbuilt(Input),
 }
@@ -41,6 +48,8 @@ pub enum LimitFault {
     ScriptTooLong(u64),
     /// The program has more than 4,096 cells; how many.
     TooManyCells(u32),
+    /// The program has more than 65,536 properties; how many, or 4,294,967,295 where there are more than that.
+    TooManyProps(u32),
 }
 
 /// How a call ended.
@@ -90,7 +99,9 @@ pub fn fault_line(alloc: Global, status: &Status) -> Result<Vec<u8>, AllocError>
         Status::Done => Ok(Vec::new(alloc)),
         Status::Refused(FrontFault::Lex(fault)) => lex_line(alloc, fault),
         Status::Refused(FrontFault::Parse(fault)) => parse_line(alloc, fault),
+        Status::Refused(FrontFault::Acsl(fault)) => acsl_line(alloc, fault),
         Status::Refused(FrontFault::Types(fault)) => types_line(alloc, fault),
+        Status::Refused(FrontFault::Bind(fault)) => bind_line(alloc, fault),
         Status::Refused(FrontFault::Unbuilt(Input::File)) => {
             line(alloc, "refused: file Unbuilt\n")
         }
@@ -129,6 +140,17 @@ fn lex_line(alloc: Global, fault: &LexFault) -> Result<Vec<u8>, AllocError>
     line(alloc, text.as_str())
 }
 
+/// A line that ends with a token's text and its place.
+fn word_line(alloc: Global, start: &str, word: &[u8], at: u32) -> Result<Vec<u8>, AllocError>
+    ensures { IfOk result (λ line. line.items ≡ start.now ++ (word.now ++ with_number (codes " ") at)) }
+{
+    let place = format!(in alloc; " {at}\n")?;
+    let mut text = line(alloc, start)?;
+    text.extend_from_slice(word)?;
+    text.extend_from_slice(place.as_bytes())?;
+    Ok(text)
+}
+
 #[tactic(auto, unfolding(crate::specs::Status::parse_text))]
 fn parse_line(alloc: Global, fault: &ParseFault) -> Result<Vec<u8>, AllocError>
     ensures { IfOk result (λ line. line.items ≡ parse_text fault.now) }
@@ -139,11 +161,7 @@ fn parse_line(alloc: Global, fault: &ParseFault) -> Result<Vec<u8>, AllocError>
             line(alloc, text.as_str())
         }
         ParseFault::Unsupported(word, at) => {
-            let place = format!(in alloc; " {at}\n")?;
-            let mut text = line(alloc, "refused: parse Unsupported ")?;
-            text.extend_from_slice(word.as_slice())?;
-            text.extend_from_slice(place.as_bytes())?;
-            Ok(text)
+            word_line(alloc, "refused: parse Unsupported ", word.as_slice(), *at)
         }
         ParseFault::TooDeep(at) => {
             let text = format!(in alloc; "refused: parse TooDeep {at}\n")?;
@@ -151,6 +169,21 @@ fn parse_line(alloc: Global, fault: &ParseFault) -> Result<Vec<u8>, AllocError>
         }
         ParseFault::Memory => line(alloc, "out of memory\n"),
     }
+}
+
+#[tactic(auto, unfolding(crate::specs::Status::acsl_text))]
+fn acsl_line(alloc: Global, fault: &AcslFault) -> Result<Vec<u8>, AllocError>
+    ensures { IfOk result (λ line. line.items ≡ acsl_text fault.now) }
+{
+    let text = match fault {
+        AcslFault::NotAcsl(at) => format!(in alloc; "refused: acsl NotAcsl {at}\n")?,
+        AcslFault::Unsupported(word, at) => {
+            return word_line(alloc, "refused: acsl Unsupported ", word.as_slice(), *at);
+        }
+        AcslFault::TooDeep(at) => format!(in alloc; "refused: acsl TooDeep {at}\n")?,
+        AcslFault::Memory => return line(alloc, "out of memory\n"),
+    };
+    line(alloc, text.as_str())
 }
 
 /// A line that ends with a name.
@@ -181,6 +214,19 @@ fn types_line(alloc: Global, fault: &TypeFault) -> Result<Vec<u8>, AllocError>
     line(alloc, text.as_str())
 }
 
+#[tactic(auto, unfolding(crate::specs::Status::bind_text))]
+fn bind_line(alloc: Global, fault: &BindFault) -> Result<Vec<u8>, AllocError>
+    ensures { IfOk result (λ line. line.items ≡ bind_text fault.now) }
+{
+    let text = match fault {
+        BindFault::Unknown(name) => return named_line(alloc, "refused: bind Unknown ", name),
+        BindFault::NotHere(at) => format!(in alloc; "refused: bind NotHere {at}\n")?,
+        BindFault::BadType(at) => format!(in alloc; "refused: bind BadType {at}\n")?,
+        BindFault::Memory => return line(alloc, "out of memory\n"),
+    };
+    line(alloc, text.as_str())
+}
+
 #[tactic(auto, unfolding(crate::specs::Status::limit_text))]
 fn limit_line(alloc: Global, fault: LimitFault) -> Result<Vec<u8>, AllocError>
     ensures { IfOk result (λ line. line.items ≡ limit_text fault) }
@@ -189,6 +235,7 @@ fn limit_line(alloc: Global, fault: LimitFault) -> Result<Vec<u8>, AllocError>
         LimitFault::FileTooLong(count) => format!(in alloc; "limit: FileTooLong {count}\n")?,
         LimitFault::ScriptTooLong(count) => format!(in alloc; "limit: ScriptTooLong {count}\n")?,
         LimitFault::TooManyCells(count) => format!(in alloc; "limit: TooManyCells {count}\n")?,
+        LimitFault::TooManyProps(count) => format!(in alloc; "limit: TooManyProps {count}\n")?,
     };
     line(alloc, text.as_str())
 }

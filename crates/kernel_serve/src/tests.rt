@@ -3,6 +3,8 @@
 mod scripts;
 
 use super::*;
+use acsl_bind::BindFault;
+use acsl_read::AcslFault;
 use c_types::TypeFault;
 use fc_outside::{MemFile, MemShelf, MemSink};
 use sqlite_items::Items;
@@ -115,7 +117,7 @@ fn reports_are_written(rt: HostRuntime) -> Result<(), Fail> {
 }
 
 /// Files that are refused, with the line that says why.
-const REFUSED_FILES: [(&str, &str); 45] = [
+const REFUSED_FILES: [(&str, &str); 57] = [
     // no tokens of C
     (
         "int main(void) { return 0; } @",
@@ -148,6 +150,32 @@ const REFUSED_FILES: [(&str, &str); 45] = [
     (
         "int main(void) { goto l; }",
         "refused: parse Unsupported goto 17\n",
+    ),
+    // notes that are no annotations
+    (
+        "int main(void) { //@ assert \\valid(p);\nreturn 0; }",
+        "refused: acsl Unsupported \\valid 28\n",
+    ),
+    (
+        "int main(void) { //@ assert 1 < 2 > 3;\nreturn 0; }",
+        "refused: acsl NotAcsl 34\n",
+    ),
+    (
+        "int main(void) { /*@ assert 1 */ return 0; }",
+        "refused: acsl NotAcsl 30\n",
+    ),
+    // notes in breach of the rules
+    (
+        "//@ ensures \\result > 0;\nint main(void) { //@ assert \\result > 0;\nreturn 1; }",
+        "refused: bind NotHere 53\n",
+    ),
+    (
+        "int main(void) { //@ assert !1 == 0;\nreturn 0; }",
+        "refused: bind BadType 28\n",
+    ),
+    (
+        "int main(void) { //@ loop invariant 1;\nreturn 0; }",
+        "refused: bind NotHere 21\n",
     ),
     // no defined `main`
     ("", NO_MAIN),
@@ -203,10 +231,13 @@ const REFUSED_FILES: [(&str, &str); 45] = [
     ("int main(void) { return 1 - 1; }", NO_FILE),
     ("int main(void) {\treturn 0; }", NO_FILE),
     ("int main(void) { /* */ return 0; }", NO_FILE),
-    ("int main(void) { //@ assert y == 1;\nreturn 0; }", NO_FILE),
+    (
+        "int main(void) { //@ assert y == 1;\nreturn 0; }",
+        "refused: bind Unknown y\n",
+    ),
     (
         "int main(void) { int x = 4;\n//@ assert x ==\n 4;\nreturn x; }",
-        NO_FILE,
+        "refused: acsl NotAcsl 43\n",
     ),
     // The first stage that fails decides.
     ("int *p; /*", "refused: lex OpenComment 8\n"),
@@ -221,6 +252,27 @@ const REFUSED_FILES: [(&str, &str); 45] = [
         "refused: types Recursive f\n",
     ),
     ("int a[4096]; int f(void);", "limit: TooManyCells 4097\n"),
+    (
+        "int main(void) { //@ assert ;\nreturn 0 }",
+        "refused: parse NotC 39\n",
+    ),
+    (
+        "int main(void) { int x = y; //@ assert 1;\n//@ assert ;\nreturn 0; }",
+        "refused: acsl NotAcsl 53\n",
+    ),
+    (
+        "int main(void) { //@ assert y;\nreturn z; }",
+        "refused: types Unknown z\n",
+    ),
+    (
+        "int a[4096]; int main(void) { //@ assert y;\nreturn 0; }",
+        "limit: TooManyCells 4097\n",
+    ),
+    (
+        "int f(void) { //@ assert \\old(1) == 1;\nreturn 0; }",
+        "refused: bind NotHere 25\n",
+    ),
+    ("int f(void) { //@ assert 1;\nreturn 0; }", NO_MAIN),
 ];
 
 #[test]
@@ -404,9 +456,13 @@ fn long_sum(alloc: Global, items: u32) -> Result<(Vec<u8>, Vec<u8>), AllocError>
     Ok((file, report))
 }
 
-/// So many asserts, each on its line, and the report on them.
-fn many_asserts(alloc: Global, asserts: u16) -> Result<(Vec<u8>, Vec<u8>), AllocError> {
-    let mut file = Vec::from_slice(alloc, b"int main(void) {\n")?;
+/// So many asserts, each on its line after this one, and the report on them.
+fn many_asserts(
+    alloc: Global,
+    head: &[u8],
+    asserts: u16,
+) -> Result<(Vec<u8>, Vec<u8>), AllocError> {
+    let mut file = Vec::from_slice(alloc, head)?;
     let mut report = Vec::new(alloc);
     for number in 1..=u32::from(asserts) {
         file.extend_from_slice(b"//@ assert 1<2;\n")?;
@@ -425,9 +481,30 @@ fn large_files_are_reported(rt: HostRuntime) -> Result<(), Fail> {
     let (file, report) = long_sum(rt.alloc(), 1_000)?;
     let holds = reports(rt.alloc(), file.as_slice(), QUICK, report.as_slice())?;
     assert!(rt; holds, "a sum of 1,000 items");
-    let (file, report) = many_asserts(rt.alloc(), 3_000)?;
+    let (file, report) = many_asserts(rt.alloc(), b"int main(void) {\n", 3_000)?;
     let holds = reports(rt.alloc(), file.as_slice(), QUICK, report.as_slice())?;
     assert!(rt; holds, "3,000 asserts");
+    Ok(())
+}
+
+#[test]
+fn properties_have_a_greatest_number(rt: HostRuntime) -> Result<(), Fail> {
+    // Entry, `return`, exit and each assert have a point; each point and each clause is a property.
+    let cases: [(&[u8], u16, &str); 3] = [
+        (b"//@ requires 1;\nint main(void) {\n", 32_766, NO_FILE),
+        (b"int main(void) {\n", 32_767, "limit: TooManyProps 65537\n"),
+        (
+            b"//@ requires 1;\nint main(void) {\n",
+            32_767,
+            "limit: TooManyProps 65538\n",
+        ),
+    ];
+    for (head, asserts, line) in cases {
+        let (file, _) = many_asserts(rt.alloc(), head, asserts)?;
+        let inputs = (file.as_slice(), b"".as_slice());
+        let holds = answers(rt.alloc(), &WORDS, inputs, QUICK, line, b"")?;
+        assert!(rt; holds, "{asserts}");
+    }
     Ok(())
 }
 
@@ -460,9 +537,24 @@ fn statuses_are_told(rt: HostRuntime) -> Result<(), Fail> {
             "limit: TooManyCells 4097\n",
         ),
         (
+            Status::Limit(LimitFault::TooManyProps(65_537)),
+            6,
+            "limit: TooManyProps 65537\n",
+        ),
+        (
+            Status::Refused(FrontFault::Acsl(AcslFault::TooDeep(6))),
+            1,
+            "refused: acsl TooDeep 6\n",
+        ),
+        (
             Status::Refused(FrontFault::Types(TypeFault::Arity(7))),
             1,
             "refused: types Arity 7\n",
+        ),
+        (
+            Status::Refused(FrontFault::Bind(BindFault::BadType(8))),
+            1,
+            "refused: bind BadType 8\n",
         ),
     ];
     for (status, number, text) in cases {

@@ -1,7 +1,13 @@
 -- What the steps of a call find: the code's side.
 use Rattle.std.specs.Prelude.{◌≡◌, ◌+◌, ◌<◌, ◌≤◌, ℕ, List, [], Option, Some, None, Result, Ok, Err, IfOk, IfErr, length}
 use Rattle.std.specs.Global.{Vec}
+use Rattle.acsl_bind.specs.declared.fault.BindFault.{BindFault}
+use Rattle.acsl_bind.specs.declared.fault.BindFault.TheVariants as B
+use Rattle.acsl_read.specs.declared.text.AcslFault.{AcslFault}
+use Rattle.acsl_read.specs.declared.text.AcslFault.TheVariants as A
+use Rattle.c_ast.specs.declared.annot.Annot.{Annot}
 use Rattle.c_ast.specs.declared.unit.Item.{Item}
+use Rattle.c_ir.specs.Programs.{Program}
 use Rattle.c_ir.specs.Props.{Props}
 use Rattle.c_types.specs.declared.fault.TypeFault.{TypeFault}
 use Rattle.c_types.specs.declared.fault.TypeFault.TheVariants as T
@@ -21,7 +27,7 @@ use Rattle.kernel_serve.specs.declared.status.Status.TheVariants as S
 use Rattle.kernel_serve.specs.declared.words.Command as words
 use Rattle.kernel_serve.specs.Limits.{most_script}
 use Rattle.kernel_serve.specs.Script.{changes_of}
-use Rattle.kernel_serve.specs.Stages.{AtFile, AtLength, AtTypes, IsRead, IsTypedText, Next, report_of}
+use Rattle.kernel_serve.specs.Stages.{AtFile, AtLength, AtMain, AtTypes, Enters, IsBound, IsRead, IsTypedText, Next, report_of}
 use Rattle.kernel_serve.specs.Told.{Files}
 use Rattle.kernel_serve.specs.Words.{Command}
 
@@ -42,7 +48,7 @@ IsStop (S.Refused fault) = Prim.Unit {0}
 IsStop (S.Limit fault) = Prim.Unit {0}
 IsStop status = ⊥
 
--- how a call ends by a fault of tokens, and of the grammar
+-- how a call ends by a fault of tokens, of a grammar, of types and of binding
 abbrev pub lex_status : LexFault → Status
 lex_status L.Memory = S.Memory
 lex_status (L.BadByte at) = S.Refused (Fault.Lex (L.BadByte at))
@@ -68,28 +74,65 @@ type_status (T.Recursive x) = S.Refused (Fault.Types (T.Recursive x))
 type_status (T.ConstWrite at) = S.Refused (Fault.Types (T.ConstWrite at))
 type_status (T.TooManyCells count) = S.Limit (Limit.TooManyCells count)
 
+abbrev pub acsl_status : AcslFault → Status
+acsl_status A.Memory = S.Memory
+acsl_status (A.NotAcsl at) = S.Refused (Fault.Acsl (A.NotAcsl at))
+acsl_status (A.Unsupported word at) = S.Refused (Fault.Acsl (A.Unsupported word at))
+acsl_status (A.TooDeep at) = S.Refused (Fault.Acsl (A.TooDeep at))
+
+abbrev pub bind_status : BindFault → Status
+bind_status B.Memory = S.Memory
+bind_status (B.Unknown x) = S.Refused (Fault.Bind (B.Unknown x))
+bind_status (B.NotHere at) = S.Refused (Fault.Bind (B.NotHere at))
+bind_status (B.BadType at) = S.Refused (Fault.Bind (B.BadType at))
+
 -- nothing comes after
 abbrev pub nothing : Next
 nothing u status out = ⊥
 
--- the stage of types stops
-abbrev pub StopsInTypes : List ℕ → List Item → Status → Type 0
-StopsInTypes file items S.Memory = Prim.Unit {0}
-StopsInTypes file items (S.Refused fault) = AtTypes file items nothing (S.Refused fault) []
-StopsInTypes file items (S.Limit fault) = AtTypes file items nothing (S.Limit fault) []
-StopsInTypes file items status = ⊥
+-- the stages from types on stop
+abbrev pub StopsInTypes : List ℕ → List Item → List Annot → Status → Type 0
+StopsInTypes file items annots S.Memory = Prim.Unit {0}
+StopsInTypes file items annots (S.Refused fault) = AtTypes file items annots nothing (S.Refused fault) []
+StopsInTypes file items annots (S.Limit fault) = AtTypes file items annots nothing (S.Limit fault) []
+StopsInTypes file items annots status = ⊥
 
--- an answer for a text that has a program
+-- so do those from the entry function on
+abbrev pub StopsInMain : List ℕ → Program → Status → Type 0
+StopsInMain file p S.Memory = Prim.Unit {0}
+StopsInMain file p (S.Refused fault) = AtMain file p nothing (S.Refused fault) []
+StopsInMain file p (S.Limit fault) = AtMain file p nothing (S.Limit fault) []
+StopsInMain file p status = ⊥
+
+-- an answer for a text and annotations that have this program
+abbrev pub OnlyBound : Program → Result Program Status → Type 0
+OnlyBound p (Ok q) = q ≡ p
+OnlyBound p (Err S.Memory) = Prim.Unit {0}
+OnlyBound p (Err status) = ⊥
+
+-- what the stages of types and of binding answer
+pub record IsBoundAnswer (items : List Item) (annots : List Annot) (answer : Result Program Status) : Type 0 where
+  pub found : IfOk answer (IsBound items annots)
+  pub stops : (file : List ℕ) → IfErr answer (StopsInTypes file items annots)
+  pub only : (p : Program) → IsBound items annots p → OnlyBound p answer
+
+-- an answer for a text, or a program, that passes
 abbrev pub OnlyTyped : Result (Prim.Unit {0}) Status → Type 0
 OnlyTyped (Ok x) = Prim.Unit {0}
 OnlyTyped (Err S.Memory) = Prim.Unit {0}
 OnlyTyped (Err status) = ⊥
 
--- what the stage of types answers
-pub record IsTypesAnswer (items : List Item) (answer : Result (Prim.Unit {0}) Status) : Type 0 where
-  pub found : IfOk answer (λ _. IsTypedText items)
-  pub stops : (file : List ℕ) → IfErr answer (StopsInTypes file items)
-  pub only : IsTypedText items → OnlyTyped answer
+-- what the stages of the entry function and of the table answer
+pub record IsEntryAnswer (p : Program) (answer : Result (Prim.Unit {0}) Status) : Type 0 where
+  pub found : IfOk answer (λ _. Enters p)
+  pub stops : (file : List ℕ) → IfErr answer (StopsInMain file p)
+  pub only : Enters p → OnlyTyped answer
+
+-- what all these stages answer
+pub record IsTypesAnswer (items : List Item) (annots : List Annot) (answer : Result (Prim.Unit {0}) Status) : Type 0 where
+  pub found : IfOk answer (λ _. IsTypedText items annots)
+  pub stops : (file : List ℕ) → IfErr answer (StopsInTypes file items annots)
+  pub only : IsTypedText items annots → OnlyTyped answer
 
 -- the file's own stages stop
 abbrev pub StopsInFile : List ℕ → Status → Type 0

@@ -1,9 +1,8 @@
-use Rattle.std.proofs.Common.{Err, subst, sym}
-use Rattle.kernel_serve.proofs.Fronted.{no_types}
-use Rattle.kernel_serve.specs.declared.status.Status.{Status}
-use Rattle.kernel_serve.specs.inner.Steps.{IsTypesAnswer}
+use Rattle.kernel_serve.proofs.Fronted.{entry_found, not_bound}
 use Rattle.kernel_serve.proofs.front.typed.Goals as goal
 
+pub returns-in-Ok : goal.returns-in-Ok
+returns-in-Ok c = entry_found c.args.tree.now.items c.args.annots.now c.in-Ok.program c.entered.result c.in-Ok.ensures c.entered.ensures
+
 pub returns-in-Err : goal.returns-in-Err
-returns-in-Err c =
-    subst (λ (s : Status). IsTypesAnswer c.args.tree.now.items (Err s)) (sym c.type_status.ensures) (no_types c.one_program.ensures c.args.tree.now.items c.in-Err.fault c.in-Err.ensures.answer)
+returns-in-Err c = not_bound c.args.tree.now.items c.args.annots.now c.in-Err.status c.in-Err.ensures
