@@ -1,0 +1,15 @@
+pub mod Calls
+pub mod Cells
+pub mod Chains
+pub mod CourseValues
+pub mod Deep
+pub mod Fewer
+pub mod Functions
+pub mod MeaningTypes
+pub mod OperatorValues
+pub mod PassedChecks
+pub mod Rows
+pub mod Statements
+pub mod TypedCells
+pub mod TypedNodes
+pub mod Typing

@@ -1,0 +1,9 @@
+pub mod Evaluation
+pub mod Examples
+pub mod Laws
+pub mod Parts
+pub mod Programs
+pub mod Runs
+pub mod Statements
+pub mod Truth
+pub mod Visits
