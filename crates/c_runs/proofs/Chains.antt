@@ -1,5 +1,5 @@
 -- How the law of pieces passes through the parts of runs.
-use Rattle.std.proofs.Common.{◌≡◌, ◌∙◌, ℕ, zero, suc, ℤ, pos, Bool, true, false, List, [], ◌∷◌, ◌++◌, Option, Some, None, refl, sym, ap, subst, inl, inr, ◌⊎◌}
+use Rattle.std.proofs.Common.{◌≡◌, ◌<◌, length, ◌∙◌, ℕ, zero, suc, ℤ, pos, Bool, true, false, List, [], ◌∷◌, ◌++◌, Option, Some, None, refl, sym, ap, subst, inl, inr, ◌⊎◌}
 use Rattle.fc_base.specs.declared.ids.PointId.{PointId}
 use Rattle.c_ir.specs.declared.ty.IntType.{IntType}
 use Rattle.c_rules.specs.Constants.{is_zero}
@@ -156,17 +156,17 @@ args_good w q (ty ∷ tys) (e ∷ es) f typed here h =
 
 -- ---- arrivals
 
-admitted_fine : (w : World) (q : ℕ) (entry : Cells) (b : Bool) (f : Part) (seen : List Piece) (n : ℕ) (c : Cells) (i : List ℤ) → admitted w q entry c ≡ b → Joins w seen (Arrival q c (point_visits w.program q entry c)) → Typed w.program c → Good w (Some q) f → Fine w seen (admitting b (Arrival q c (point_visits w.program q entry c)) f n c i)
-admitted_fine w q entry true f seen n c i is joins typed good =
+admitted_fine : (w : World) (q : ℕ) (entry : Cells) (b : Bool) (f : Part) (seen : List Piece) (n : ℕ) (c : Cells) (i : List ℤ) → q < length w.program.points → admitted w q entry c ≡ b → Joins w seen (Arrival q c (point_visits w.program q entry c)) → Typed w.program c → Good w (Some q) f → Fine w seen (admitting b (Arrival q c (point_visits w.program q entry c)) f n c i)
+admitted_fine w q entry true f seen n c i is_point is joins typed good =
     let piece = Arrival q c (point_visits w.program q entry c) in
     let rest = good (piece ∷ seen) n c i (inl refl) typed in
-    record { chain = ((record { typed = typed; entry = entry; admits = is; visits = refl }, joins), rest.chain); typed = rest.typed }
-admitted_fine w q entry false f seen n c i is joins typed good = record { chain = tt; typed = typed }
+    record { chain = ((record { is_point = is_point; typed = typed; entry = entry; admits = is; visits = refl }, joins), rest.chain); typed = rest.typed }
+admitted_fine w q entry false f seen n c i is_point is joins typed good = record { chain = tt; typed = typed }
 
 -- an arrival, where the pieces before it are those that they must be
-pub arrive_fine : (w : World) (q : ℕ) (entry : Cells) (f : Part) (seen : List Piece) (n : ℕ) (c : Cells) (i : List ℤ) → Joins w seen (Arrival q c (point_visits w.program q entry c)) → Typed w.program c → Good w (Some q) f → Fine w seen (arrive w q entry f n c i)
-arrive_fine w q entry f seen zero c i joins typed good = record { chain = tt; typed = typed }
-arrive_fine w q entry f seen (suc n) c i joins typed good = admitted_fine w q entry (admitted w q entry c) f seen n c i refl joins typed good
+pub arrive_fine : (w : World) (q : ℕ) (entry : Cells) (f : Part) (seen : List Piece) (n : ℕ) (c : Cells) (i : List ℤ) → q < length w.program.points → Joins w seen (Arrival q c (point_visits w.program q entry c)) → Typed w.program c → Good w (Some q) f → Fine w seen (arrive w q entry f n c i)
+arrive_fine w q entry f seen zero c i is_point joins typed good = record { chain = tt; typed = typed }
+arrive_fine w q entry f seen (suc n) c i is_point joins typed good = admitted_fine w q entry (admitted w q entry c) f seen n c i is_point refl joins typed good
 
-pub at_good : (w : World) (p : PointId) (f : Part) → has_requires (clauses_at w.program p.0) ≡ false → Good w (Some p.0) f → Good w None (at w p f)
-at_good w p f none good seen n c i under typed = arrive_fine w p.0 c f seen n c i (inl none) typed good
+pub at_good : (w : World) (p : PointId) (f : Part) → p.0 < length w.program.points → has_requires (clauses_at w.program p.0) ≡ false → Good w (Some p.0) f → Good w None (at w p f)
+at_good w p f is_point none good seen n c i under typed = arrive_fine w p.0 c f seen n c i is_point (inl none) typed good

@@ -1,7 +1,7 @@
 -- Functions and whole runs keep the law of pieces.
-use Rattle.std.proofs.Common.{◌≡◌, ◌∙◌, ℕ, zero, suc, ◌+◌, ℤ, pos, Bool, true, false, List, [], ◌∷◌, ◌++◌, map, length, Option, Some, None, slice_get, refl, sym, ap, subst, inl, inr}
+use Rattle.std.proofs.Common.{◌≡◌, ◌<◌, ◌∙◌, ℕ, zero, suc, ◌+◌, ℤ, pos, Bool, true, false, List, [], ◌∷◌, ◌++◌, map, length, Option, Some, None, slice_get, refl, sym, ap, subst, inl, inr}
 use Rattle.std.proofs.Common.{if◌then◌else◌}
-use Rattle.c_ir.specs.Bodies.{AtExit}
+use Rattle.c_ir.specs.Bodies.{AtEntry, AtExit}
 use Rattle.c_ir.specs.Keeps.{Keeps, frame_of, ty_at}
 use Rattle.c_ir.specs.Programs.{Program}
 use Rattle.c_ir.specs.declared.tree.Fun.{Fun}
@@ -16,7 +16,7 @@ use Rattle.c_runs.specs.Statements.{World, Inside, set, admitted, point_visits, 
 use Rattle.c_runs.proofs.Calls.{CallsGood, Ground}
 use Rattle.c_runs.proofs.Cells.{set_typed, cell_is_own, zero_of, some_is, start_typed}
 use Rattle.c_runs.proofs.Chains.{Fine, Good, ends_good, changes_good, then_fine, seq_good, closing_good, taking_good, arrive_fine}
-use Rattle.c_runs.proofs.Statements.{Body, Within, own_clear, body_good}
+use Rattle.c_runs.proofs.Statements.{Body, Within, own_clear, own_point, body_good}
 use Rattle.c_runs.proofs.OperatorValues.{converted_is}
 use Rattle.param_book.specs.Table.{entry_function}
 
@@ -78,7 +78,7 @@ made_good w calls g f (Some ss) keeps good is has =
 
 exit_good : (w : World) (g : ℕ) (f : Fun) (entry : Cells) → Keeps w.program → slice_get w.program.fns g ≡ Some f → Good w None (arrive w f.exit.0 entry (ends Next))
 exit_good w g f entry keeps is seen n c i under typed =
-    arrive_fine w f.exit.0 entry (ends Next) seen n c i
+    arrive_fine w f.exit.0 entry (ends Next) seen n c i (own_point (frame_of w.program g f) AtExit f.exit (keeps.exit g f is))
     (inl (own_clear (frame_of w.program g f) AtExit f.exit refl (keeps.exit g f is))) typed (ends_good w (Some f.exit.0) Next)
 
 rest_good : (w : World) (calls : ℕ → Part) (g : ℕ) (f : Fun) (entry : Cells) → Keeps w.program → CallsGood w calls → slice_get w.program.fns g ≡ Some f → Good w None (seq (body w calls f f.body) (arrive w f.exit.0 entry (ends Next)))
@@ -90,7 +90,7 @@ called : (w : World) (calls : ℕ → Part) (g : ℕ) (f : Fun) (seen : List Pie
 called w calls g f seen n c i keeps good is last typed =
     let o = arrive w f.entry.0 c (ends Next) n c i in
     then_fine w None seen o.ending o (seq (body w calls f f.body) (arrive w f.exit.0 c (ends Next))) tt
-    (arrive_fine w f.entry.0 c (ends Next) seen n c i (inr (last, refl)) typed (ends_good w (Some f.entry.0) Next))
+    (arrive_fine w f.entry.0 c (ends Next) seen n c i (own_point (frame_of w.program g f) AtEntry f.entry (keeps.entry g f is)) (inr (last, refl)) typed (ends_good w (Some f.entry.0) Next))
     (rest_good w calls g f c keeps good is)
 
 calls_good : (w : World) (depth : ℕ) → Keeps w.program → CallsGood w (call_to w depth)
@@ -101,16 +101,17 @@ calls_good w (suc depth) keeps = λ g f is seen n c i last typed.
 
 -- ---- the first function
 
-begun : (w : World) (q : ℕ) (entry : Cells) (b : Bool) (rest : Part) (n : ℕ) (c : Cells) (i : List ℤ) → admitted w q entry c ≡ b → Typed w.program c → Good w None rest → Runs w (then_run (admitting b (Arrival q c (point_visits w.program q entry c)) (ends Next) n c i).ending (admitting b (Arrival q c (point_visits w.program q entry c)) (ends Next) n c i) rest).pieces
-begun w q entry true rest n c i is typed good =
+begun : (w : World) (q : ℕ) (entry : Cells) (b : Bool) (rest : Part) (n : ℕ) (c : Cells) (i : List ℤ) → q < length w.program.points → admitted w q entry c ≡ b → Typed w.program c → Good w None rest → Runs w (then_run (admitting b (Arrival q c (point_visits w.program q entry c)) (ends Next) n c i).ending (admitting b (Arrival q c (point_visits w.program q entry c)) (ends Next) n c i) rest).pieces
+begun w q entry true rest n c i is_point is typed good =
     let piece = Arrival q c (point_visits w.program q entry c) in
-    (record { typed = typed; entry = entry; admits = is; visits = refl }, (good (piece ∷ []) n c i tt typed).chain)
-begun w q entry false rest n c i is typed good = tt
+    (record { is_point = is_point; typed = typed; entry = entry; admits = is; visits = refl }, (good (piece ∷ []) n c i tt typed).chain)
+begun w q entry false rest n c i is_point is typed good = tt
 
 first_runs : (w : World) (calls : ℕ → Part) (g : ℕ) (f : Fun) (n : ℕ) (c : Cells) (i : List ℤ) → Keeps w.program → CallsGood w calls → slice_get w.program.fns g ≡ Some f → Typed w.program c → Runs w (function w calls f n c i).pieces
 first_runs w calls g f zero c i keeps good is typed = tt
 first_runs w calls g f (suc n) c i keeps good is typed =
-    begun w f.entry.0 c (admitted w f.entry.0 c c) (seq (body w calls f f.body) (arrive w f.exit.0 c (ends Next))) n c i refl typed
+    begun w f.entry.0 c (admitted w f.entry.0 c c) (seq (body w calls f f.body) (arrive w f.exit.0 c (ends Next))) n c i
+    (own_point (frame_of w.program g f) AtEntry f.entry (keeps.entry g f is)) refl typed
     (rest_good w calls g f c keeps good is)
 
 by_function : (w : World) (depth g : ℕ) (o : Option Fun) (n : ℕ) (c : Cells) (i : List ℤ) → Keeps w.program → slice_get w.program.fns g ≡ o → Typed w.program c → Runs w (function_if w (call_to w depth) o n c i).pieces

@@ -3,6 +3,7 @@ use Rattle.std.proofs.Common.{◌≡◌, ◌∙◌, ◌==◌, ℕ, zero, suc, �
 use Rattle.std.specs.List.{list_all}
 use Rattle.std.specs.Option.{option_map}
 use Rattle.std.proofs.lemmas.Bool.{and_parts, true≢false, both_ways}
+use Rattle.std.proofs.lemmas.Option.{slice_get_within}
 use Rattle.fc_base.specs.declared.ids.PointId.{PointId}
 use Rattle.c_ir.specs.Bodies.{Frame, Stand, AtEntry, AtExit, AtLoop, AtNote, Plain, stand_of, same_stand, is_own, bears, clause_fits, expr_fits, value_fits, value_if_fits, declared_fits, is_declared, init_fits, is_local, cell_count, return_fits, all_fit, fits, fits_step, stmts_fit}
 use Rattle.c_ir.specs.Formed.{Layout, form, on_some, cells_pass, is_read_as}
@@ -67,6 +68,15 @@ pub own_clear : (f : Frame) (stand : Stand) (q : PointId) → same_stand stand A
 unfolding is_own
 own_clear f stand q other is = clear_if f stand (slice_get f.points q.0) other is
 
+point_if : (f : Frame) (stand : Stand) (n : ℕ) (o : Option PointInfo) → slice_get f.points n ≡ o → on_some (bears f stand) o ≡ true → n < length f.points
+point_if f stand n None is own = absurd (true≢false (sym own))
+point_if f stand n (Some info) is own = slice_get_within f.points n info is
+
+-- a function's point is one of the program
+pub own_point : (f : Frame) (stand : Stand) (q : PointId) → is_own f stand q ≡ true → q.0 < length f.points
+unfolding is_own
+own_point f stand q own = point_if f stand q.0 (slice_get f.points q.0) refl own
+
 -- ---- expressions that stand at a point
 
 fits_formed : (f : Frame) (p : PointId) (place : Place) (e : Expr) → expr_fits f p place e ≡ true → (form f.layout e).value ≡ true
@@ -116,7 +126,8 @@ here_by s b p place e es is within = record {
 -- ---- statements by their kinds
 
 at_own : (s : Inside) (b : Body s) (stand : Stand) (p : PointId) (f : Part) → same_stand stand AtEntry ≡ false → is_own (frame_in s b) stand p ≡ true → Good s.world (Some p.0) f → Good s.world None (at s.world p f)
-at_own s b stand p f other own good = at_good s.world p f (own_clear (frame_in s b) stand p other own) good
+at_own s b stand p f other own good =
+    at_good s.world p f (own_point (frame_in s b) stand p own) (own_clear (frame_in s b) stand p other own) good
 
 given : (s : Inside) (b : Body s) (p : PointId) (place : Place) (ty : IntType) (to : Option ℕ) (e : Expr) (es : List Expr) → value_fits (frame_in s b) p place ty e ≡ true → ToFits s.world.program to ty → Within s (at_point p (e ∷ es)) → Good s.world (Some p.0) (giving_to s p.0 to e)
 given s b p place ty to e es is fits within =

@@ -14,9 +14,10 @@ use Rattle.c_runs.specs.Statements.{World, admitted, call_to, clauses_at, entry_
 
 -- ---- pieces
 
--- the visits of an arrival with these cells: that the point is reached, and each clause with its truth; the admitted
--- ones are true
+-- the visits of an arrival at a point of the program with these cells: that the point is reached, and each clause with
+-- its truth; the admitted ones are true
 pub record Arrives (w : World) (q : ℕ) (c : Cells) (vs : List Visit) : Type 0 where
+  pub is_point : q < length w.program.points
   pub typed : Typed w.program c
   -- the cells that `\old` speaks of
   pub entry : Cells
@@ -98,7 +99,8 @@ Chained w seen (x ∷ xs) = (Fits w x × Joins w seen x) × Chained w (x ∷ see
 -- a run: its first piece is the arrival at the entry function, whose preconditions are admitted
 abbrev pub Runs : World → List Piece → Type 0
 Runs w [] = Unit {0}
-Runs w (x ∷ xs) = Fits w x × Chained w (x ∷ []) xs
+Runs w (Arrival q c vs ∷ xs) = Fits w (Arrival q c vs) × Chained w (Arrival q c vs ∷ []) xs
+Runs w (Between q vs ∷ xs) = ⊥
 
 abbrev pub RunsAreChained : Type 0
 RunsAreChained = (p : Program) → Keeps p → (values input : List ℤ) (n : ℕ) → Runs (world_of p values) (run_of p values input n)

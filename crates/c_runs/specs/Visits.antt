@@ -1,4 +1,4 @@
--- What a run leaves behind: the properties that it visits, in pieces (this project's own).
+-- What a run leaves: the properties that it visits, in pieces (this project's own).
 use Rattle.std.specs.Prelude.{ℕ, ℤ, Bool, List, [], ◌∷◌, ◌++◌, Option}
 use Rattle.c_ir.specs.declared.kind.AlarmKind.{AlarmKind}
 
