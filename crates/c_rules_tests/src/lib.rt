@@ -1,5 +1,0 @@
-//! Constant expressions with their values.
-#![tactic(auto)]
-
-#[cfg(test)]
-mod tests;
