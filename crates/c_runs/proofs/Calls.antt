@@ -9,7 +9,7 @@ use Rattle.c_ir.specs.declared.tree.Expr.{Expr}
 use Rattle.c_ir.specs.declared.tree.Fun.{Fun}
 use Rattle.c_runs.specs.Visits.{Cells, Visit, Piece, Arrival, Between}
 use Rattle.c_runs.specs.Evaluation.{Evaluation, Calling, Assigning, Meaning, meaning}
-use Rattle.c_runs.specs.Laws.{Evaluates, Enters, Fits, HasArrival, LastChecks, Joins, Chained}
+use Rattle.c_runs.specs.Laws.{Evaluates, Enters, EntersAt, Fits, HasArrival, LastChecks, Joins, Chained}
 use Rattle.c_runs.specs.Parts.{IsOf, Typed, Placed, placed_in_fns, Has, Visits, VisitsArg, VisitsCall, VisitsAssign, VisitsPart, Calls, call_assigned}
 use Rattle.c_runs.specs.Runs.{Part, Out, Ending, ends, changes, seq, between, evaluated}
 use Rattle.c_runs.specs.Statements.{World, Inside, store, written, preconditions, formals_in, entry_clauses, clauses_at, result_of, freed, leaving, calling, entering, with_args, giving, statement, meaning_in, dropping, giving_to}
@@ -69,12 +69,19 @@ leaving_good s u k to ty ground call fits =
     (result_typed p k.function call.function ty k.convert c ground.keeps call.is_function call.result typed) typed))
 
 calling_good : (s : Inside) (q : ℕ) (e : Expr) (k : Calling) (to : Option ℕ) (ty : IntType) → Ground s → Here s q e → Calls (meaning_in s e) k → CallTyped s.world.program k ty → ToFits s.world.program to ty → Good s.world (Some q) (calling s q k.function k.convert to)
+unfolding enters
 calling_good s q e k to ty ground here calls call fits seen n c i under typed =
     let p = s.world.program in
     let vs = preconditions q 0 c (entry_clauses p (slice_get p.fns k.function)) in
     let piece = Between q vs in
-    let last = ap (λ (o : Option Fun). preconditions q 0 c (entry_clauses p o)) call.is_function in
-    let first = ground.calls k.function call.function call.is_function (piece ∷ seen) n c i last typed in
+    let same = ap (λ (o : Option Fun). preconditions q 0 c (entry_clauses p o)) call.is_function in
+    let own : EntersAt s.world call.function.entry.0 q vs = record {
+      enters = enters s q e k c here calls;
+      function = call.function;
+      is_function = call.is_function;
+      at_entry = refl;
+    } in
+    let first = ground.calls k.function call.function call.is_function (piece ∷ seen) n c i (same, own) typed in
     let o = s.calls k.function n c i in
     let rest = then_fine s.world None (piece ∷ seen) o.ending o (leaving p k.function k.convert to) tt first (leaving_good s None k to ty ground call fits) in
     record { chain = ((inr (enters s q e k c here calls), under), rest.chain); typed = rest.typed }

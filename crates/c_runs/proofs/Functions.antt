@@ -1,18 +1,25 @@
 -- Functions and whole runs keep the law of pieces.
-use Rattle.std.proofs.Common.{◌≡◌, ◌<◌, ◌∙◌, ℕ, zero, suc, ◌+◌, ℤ, pos, Bool, true, false, List, [], ◌∷◌, ◌++◌, map, length, Option, Some, None, slice_get, refl, sym, ap, subst, inl, inr}
+use Rattle.std.proofs.Common.{◌≡◌, ◌<◌, ◌∙◌, ℕ, zero, suc, ◌+◌, ℤ, pos, Bool, true, false, List, [], ◌∷◌, ◌++◌, map, length, Option, Some, None, slice_get, refl, sym, ap, subst, inl, inr, negsuc, int_eq, arith}
 use Rattle.std.proofs.Common.{if◌then◌else◌}
-use Rattle.c_ir.specs.Bodies.{AtEntry, AtExit}
+use Rattle.std.proofs.lemmas.Bool.{and_parts, eqb-true, true≢false}
+use Rattle.std.proofs.lemmas.Cmp.{int_eq_equiv}
+use Rattle.std.proofs.lemmas.Option.{slice_get_within}
+use Rattle.c_ir.specs.Bodies.{Frame, AtEntry, AtExit, bears, is_own}
+use Rattle.c_ir.specs.Formed.{on_some}
+use Rattle.c_ir.specs.Table.{kind_admitted}
+use Rattle.c_ir.specs.declared.kind.Kind.TheVariants as K
+use Rattle.c_ir.specs.declared.tree.PointInfo.{PointInfo}
 use Rattle.c_ir.specs.Keeps.{Keeps, frame_of, ty_at}
 use Rattle.c_ir.specs.Programs.{Program}
 use Rattle.c_ir.specs.declared.tree.Fun.{Fun}
 use Rattle.c_ir.specs.declared.tree.Stmt.{Stmt}
 use Rattle.c_rules.specs.Constants.{converted}
 use Rattle.c_runs.specs.Visits.{Cells, Piece, Arrival}
-use Rattle.c_runs.specs.Laws.{Fits, LastChecks, Joins, Chained, Runs}
+use Rattle.c_runs.specs.Laws.{Fits, LastChecks, Joins, Chained, Runs, Admits}
 use Rattle.c_runs.specs.Parts.{IsOf, Typed, Placed, placed_in_body, placed_in_all, placed_in_fns, Has}
 use Rattle.c_runs.specs.Programs.{start_cells, free_cells, receiving_all, entry_number, is_lib_entry, inputs, whole, world_of, run_of}
 use Rattle.c_runs.specs.Runs.{Ending, Next, Breaks, Continues, Returns, Stopped, Cut, Out, Part, ends, changes, after, admitting, goes_on, then_run, seq, all_run, taking}
-use Rattle.c_runs.specs.Statements.{World, Inside, set, admitted, point_visits, arrive, run_all, at_end, closing, is_main, receiving, answering, body, function, function_if, call_to, formals_in}
+use Rattle.c_runs.specs.Statements.{World, Inside, set, admitted, functions_of, owner_in, owner_at, point_visits, arrive, run_all, at_end, closing, is_main, receiving, answering, body, function, function_if, call_to, formals_in}
 use Rattle.c_runs.proofs.Calls.{CallsGood, Ground}
 use Rattle.c_runs.proofs.Cells.{set_typed, cell_is_own, zero_of, some_is, start_typed}
 use Rattle.c_runs.proofs.Chains.{Fine, Good, ends_good, changes_good, then_fine, seq_good, closing_good, taking_good, arrive_fine}
@@ -101,27 +108,32 @@ calls_good w (suc depth) keeps = λ g f is seen n c i last typed.
 
 -- ---- the first function
 
-begun : (w : World) (q : ℕ) (entry : Cells) (b : Bool) (rest : Part) (n : ℕ) (c : Cells) (i : List ℤ) → q < length w.program.points → admitted w q entry c ≡ b → Typed w.program c → Good w None rest → Runs w (then_run (admitting b (Arrival q c (point_visits w.program q entry c)) (ends Next) n c i).ending (admitting b (Arrival q c (point_visits w.program q entry c)) (ends Next) n c i) rest).pieces
-begun w q entry true rest n c i is_point is typed good =
+begun : (w : World) (q : ℕ) (entry : Cells) (b : Bool) (rest : Part) (n : ℕ) (c : Cells) (i : List ℤ) → q < length w.program.points → admitted w q entry c ≡ b → Typed w.program c → Good w None rest → Admits w q → Runs w (then_run (admitting b (Arrival q c (point_visits w.program q entry c)) (ends Next) n c i).ending (admitting b (Arrival q c (point_visits w.program q entry c)) (ends Next) n c i) rest).pieces
+begun w q entry true rest n c i is_point is typed good allows =
     let piece = Arrival q c (point_visits w.program q entry c) in
-    (record { is_point = is_point; typed = typed; entry = entry; admits = is; visits = refl }, (good (piece ∷ []) n c i tt typed).chain)
-begun w q entry false rest n c i is_point is typed good = tt
+    (record { is_point = is_point; typed = typed; entry = entry; admits = is; visits = refl }, (good (piece ∷ []) n c i tt typed).chain, allows)
+begun w q entry false rest n c i is_point is typed good allows = tt
 
-first_runs : (w : World) (calls : ℕ → Part) (g : ℕ) (f : Fun) (n : ℕ) (c : Cells) (i : List ℤ) → Keeps w.program → CallsGood w calls → slice_get w.program.fns g ≡ Some f → Typed w.program c → Runs w (function w calls f n c i).pieces
-first_runs w calls g f zero c i keeps good is typed = tt
-first_runs w calls g f (suc n) c i keeps good is typed =
+first_runs : (w : World) (calls : ℕ → Part) (g : ℕ) (f : Fun) (n : ℕ) (c : Cells) (i : List ℤ) → Keeps w.program → CallsGood w calls → slice_get w.program.fns g ≡ Some f → Typed w.program c → Admits w f.entry.0 → Runs w (function w calls f n c i).pieces
+first_runs w calls g f zero c i keeps good is typed allows = tt
+first_runs w calls g f (suc n) c i keeps good is typed allows =
     begun w f.entry.0 c (admitted w f.entry.0 c c) (seq (body w calls f f.body) (arrive w f.exit.0 c (ends Next))) n c i
     (own_point (frame_of w.program g f) AtEntry f.entry (keeps.entry g f is)) refl typed
-    (rest_good w calls g f c keeps good is)
+    (rest_good w calls g f c keeps good is) allows
 
-by_function : (w : World) (depth g : ℕ) (o : Option Fun) (n : ℕ) (c : Cells) (i : List ℤ) → Keeps w.program → slice_get w.program.fns g ≡ o → Typed w.program c → Runs w (function_if w (call_to w depth) o n c i).pieces
-by_function w depth g None n c i keeps is typed = tt
-by_function w depth g (Some f) n c i keeps is typed =
-    first_runs w (call_to w depth) g f n c i keeps (calls_good w depth keeps) is typed
+-- the preconditions of this function are admitted
+abbrev Allows : World → ℕ → Type 0
+Allows w g = (f : Fun) → slice_get w.program.fns g ≡ Some f → Admits w f.entry.0
 
-entry_runs : (w : World) (depth g n : ℕ) (c : Cells) (i : List ℤ) → Keeps w.program → Typed w.program c → Runs w (call_to w depth g n c i).pieces
-entry_runs w zero g n c i keeps typed = tt
-entry_runs w (suc depth) g n c i keeps typed = by_function w depth g (slice_get w.program.fns g) n c i keeps refl typed
+by_function : (w : World) (depth g : ℕ) (o : Option Fun) (n : ℕ) (c : Cells) (i : List ℤ) → Keeps w.program → slice_get w.program.fns g ≡ o → Typed w.program c → Allows w g → Runs w (function_if w (call_to w depth) o n c i).pieces
+by_function w depth g None n c i keeps is typed allows = tt
+by_function w depth g (Some f) n c i keeps is typed allows =
+    first_runs w (call_to w depth) g f n c i keeps (calls_good w depth keeps) is typed (allows f is)
+
+entry_runs : (w : World) (depth g n : ℕ) (c : Cells) (i : List ℤ) → Keeps w.program → Typed w.program c → Allows w g → Runs w (call_to w depth g n c i).pieces
+entry_runs w zero g n c i keeps typed allows = tt
+entry_runs w (suc depth) g n c i keeps typed allows =
+    by_function w depth g (slice_get w.program.fns g) n c i keeps refl typed allows
 
 -- ---- inputs
 
@@ -162,13 +174,33 @@ after_quiet w Returns o g h runs = subst (Runs w) (sym h.0) tt
 after_quiet w Stopped o g h runs = subst (Runs w) (sym h.0) tt
 after_quiet w Cut o g h runs = subst (Runs w) (sym h.0) tt
 
-pub whole_runs : (w : World) (lib : Bool) (g n : ℕ) (c : Cells) (i : List ℤ) → Keeps w.program → Typed w.program c → Runs w (whole w lib g n c i).pieces
-whole_runs w lib g n c i keeps typed =
+pub whole_runs : (w : World) (lib : Bool) (g n : ℕ) (c : Cells) (i : List ℤ) → Keeps w.program → Typed w.program c → Allows w g → Runs w (whole w lib g n c i).pieces
+whole_runs w lib g n c i keeps typed allows =
     let o = inputs w.program lib g n c i in
     after_quiet w o.ending o (call_to w (length w.program.fns) g) (inputs_quiet w.program lib g n c i typed)
-    (λ m d j at. entry_runs w (length w.program.fns) g m d j keeps at)
+    (λ m d j at. entry_runs w (length w.program.fns) g m d j keeps at allows)
+
+-- ---- the entry function
+
+owner_if : (f : Frame) (o : Option PointInfo) → on_some (bears f AtEntry) o ≡ true → owner_in o ≡ f.function
+owner_if f None is = absurd (true≢false (sym is))
+owner_if f (Some info) is = eqb-true info.owner.0 f.function (and_parts _ _ is).0
+
+-- the owner of a function's entry
+entry_owner : (p : Program) (g : ℕ) (f : Fun) → Keeps p → slice_get p.fns g ≡ Some f → owner_at p f.entry.0 ≡ g
+unfolding is_own
+entry_owner p g f keeps is = owner_if (frame_of p g f) (slice_get p.points f.entry.0) (keeps.entry g f is)
+
+allowed : (p : Program) (z : ℤ) (f : Fun) → Keeps p → slice_get p.fns (entry_number p z) ≡ Some f
+    → kind_admitted (functions_of p) z (owner_at p f.entry.0) K.Requires ≡ true
+allowed p (pos g) f keeps is =
+    subst (λ (n : ℕ). int_eq (pos n) (pos g) ≡ true) (sym (entry_owner p g f keeps is)) (int_eq_equiv.refl (pos g))
+allowed p (negsuc g) f keeps is =
+    let less = slice_get_within p.fns (length p.fns) f is in
+    absurd (omega (arith, less))
 
 pub chained : (p : Program) → Keeps p → (values input : List ℤ) (n : ℕ) → Runs (world_of p values) (run_of p values input n)
 unfolding run_of
 chained p keeps values input n =
     whole_runs (world_of p values) (is_lib_entry values) (entry_number p (entry_function values)) n (start_cells p) input keeps (start_typed p keeps)
+    (λ f is. allowed p (entry_function values) f keeps is)

@@ -1,16 +1,18 @@
 -- The laws of runs (this project's own): what each piece is, and which pieces come before it; that fewer arrivals give a
 -- prefix; and that no run is cut for the depth of its calls.
-use Rattle.std.specs.Prelude.{◌≡◌, ◌⊎◌, ◌<◌, ◌≤◌, ℕ, ℤ, Bool, true, false, ◌||◌, List, [], ◌∷◌, ◌++◌, length, slice_get}
+use Rattle.std.specs.Prelude.{◌≡◌, ◌⊎◌, ◌<◌, ◌≤◌, ℕ, ℤ, Bool, true, false, ◌||◌, List, [], ◌∷◌, ◌++◌, length, slice_get, Some}
 use Rattle.c_ir.specs.Keeps.{Keeps}
 use Rattle.c_ir.specs.Programs.{Program}
+use Rattle.c_ir.specs.Table.{kind_admitted}
 use Rattle.c_ir.specs.declared.kind.Kind.{Kind}
 use Rattle.c_ir.specs.declared.kind.Kind.TheVariants as K
+use Rattle.c_ir.specs.declared.tree.Fun.{Fun}
 use Rattle.c_ir.specs.declared.tree.PointClause.{PointClause}
 use Rattle.c_runs.specs.Visits.{Cells, Visit, Piece, Arrival, Between}
 use Rattle.c_runs.specs.Evaluation.{Calling, meaning}
 use Rattle.c_runs.specs.Parts.{Placed, placed_in_fns, Has, Typed, VisitsPart, Calls}
 use Rattle.c_runs.specs.Programs.{run_of, world_of}
-use Rattle.c_runs.specs.Statements.{World, admitted, call_to, clauses_at, entry_clauses, point_visits, preconditions}
+use Rattle.c_runs.specs.Statements.{World, admitted, call_to, clauses_at, entry_clauses, functions_of, owner_at, point_visits, preconditions}
 
 -- ---- pieces
 
@@ -63,10 +65,17 @@ abbrev pub has_requires : List PointClause → Bool
 has_requires [] = false
 has_requires (c ∷ cs) = is_requires c.kind || has_requires cs
 
--- the piece visits the preconditions at this point in these cells
+-- the visits at point r are those of a call of the function whose entry is point q
+pub record EntersAt (w : World) (q r : ℕ) (vs : List Visit) : Type 0 where
+  pub enters : Enters w r vs
+  pub function : Fun
+  pub is_function : slice_get w.program.fns enters.call.function ≡ Some function
+  pub at_entry : function.entry.0 ≡ q
+
+-- the piece visits the preconditions at this point, which is the entry of the function that is called, in these cells
 abbrev pub Checks : World → ℕ → Cells → Piece → Type 0
 Checks w q c (Arrival r d vs) = ⊥
-Checks w q c (Between r vs) = vs ≡ preconditions r 0 c (clauses_at w.program q)
+Checks w q c (Between r vs) = (vs ≡ preconditions r 0 c (clauses_at w.program q)) × EntersAt w q r vs
 
 abbrev pub LastChecks : World → ℕ → Cells → List Piece → Type 0
 LastChecks w q c [] = ⊥
@@ -96,10 +105,14 @@ abbrev pub Chained : World → List Piece → List Piece → Type 0
 Chained w seen [] = Unit {0}
 Chained w seen (x ∷ xs) = (Fits w x × Joins w seen x) × Chained w (x ∷ seen) xs
 
+-- the preconditions of this point's function are admitted
+abbrev pub Admits : World → ℕ → Type 0
+Admits w q = kind_admitted (functions_of w.program) w.entry (owner_at w.program q) K.Requires ≡ true
+
 -- a run: its first piece is the arrival at the entry function, whose preconditions are admitted
 abbrev pub Runs : World → List Piece → Type 0
 Runs w [] = Unit {0}
-Runs w (Arrival q c vs ∷ xs) = Fits w (Arrival q c vs) × Chained w (Arrival q c vs ∷ []) xs
+Runs w (Arrival q c vs ∷ xs) = Fits w (Arrival q c vs) × Chained w (Arrival q c vs ∷ []) xs × Admits w q
 Runs w (Between q vs ∷ xs) = ⊥
 
 abbrev pub RunsAreChained : Type 0
