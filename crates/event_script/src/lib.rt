@@ -5,8 +5,6 @@ mod emission;
 mod fault;
 mod names;
 mod script;
-#[cfg(test)]
-mod tests;
 mod value;
 
 pub use fault::ScriptFault;

@@ -7,8 +7,6 @@ mod counting;
 mod flags;
 mod inputs;
 mod laws;
-#[cfg(test)]
-mod tests;
 
 pub use consolidation::{Verdicts, full};
 pub use counting::{CountedEntry, current};

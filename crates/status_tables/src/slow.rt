@@ -242,7 +242,7 @@ impl Slow<'_> {
 }
 
 /// The verdict of a property.
-pub(super) fn verdict(history: &History, props: &PropTable, place: u32) -> Verdict {
+pub(crate) fn verdict(history: &History, props: &PropTable, place: u32) -> Verdict {
     let mut slow = Slow {
         history,
         props,
