@@ -1,7 +1,7 @@
 #!/bin/sh
 # Times the built program on C texts of 1, 2 and 4 MiB that its tokens and grammar take, full of asserts, of
-# expressions or of declarations, up to where they end: all are typed, then the first two are refused as a program
-# that isn't built, and the third has too many cells, one for each line. The least processor seconds of five runs,
+# expressions or of declarations, up to where they end: all are typed, then the first two have too many properties, and
+# the third has too many cells, one for each line. The least processor seconds of five runs,
 # the greatest peak memory, and the ratio of the time to that of the size before. To be run by hand.
 # Expected at 4 MiB: under 2 s and 1 GiB, and no ratio over 2.5.
 # The program is proved and built by `rt ci`, or by `rt run` in crates/fc_main.
@@ -42,9 +42,14 @@ def text_of(form, size):
 
 def end_of(form, text):
     """The exit status of a run on a text, and what the program says."""
+    lines = text.count(b"\n")
     if form == "declarations":
-        return 6, b"limit: TooManyCells %d\n" % text.count(b"\n")
-    return 1, b"refused: file Unbuilt\n"
+        return 6, b"limit: TooManyCells %d\n" % lines
+    # The entry, `return` and the exit have a point, and each line between; an assert is a property, and a line of
+    # expressions has eight alarms.
+    if form == "asserts":
+        return 6, b"limit: TooManyProps %d\n" % (3 + 2 * (lines - 2))
+    return 6, b"limit: TooManyProps %d\n" % (3 + 9 * (lines - 3))
 
 
 def run(program, folder, end):

@@ -1,6 +1,6 @@
-//! The program `fc_main`: its words are `report FILE --script EVENTS`. It writes the report to standard output,
-//! says on standard error how the call ended where not all went well, and ends with the exit status of
-//! `kernel_serve`.
+//! The program `fc_main`: its words are those of `kernel_serve::report_run`, which begin with `report FILE`. It writes
+//! the report to standard output, says on standard error how the call ended where not all went well, and ends with
+//! the exit status of `kernel_serve`.
 #![tactic(auto)]
 
 use core::thread::Anything;

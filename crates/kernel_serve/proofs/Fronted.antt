@@ -1,7 +1,8 @@
 -- What the stages of a file come to.
-use Rattle.std.proofs.Common.{◌≡◌, ◌∙◌, inl, inr, ◌<◌, ◌≤◌, ℕ, List, Option, Some, None, refl, ap, sym, subst, length, arith, true}
+use Rattle.std.proofs.Common.{◌≡◌, ◌∙◌, inl, inr, ◌<◌, ◌≤◌, ℕ, List, Option, Some, None, refl, ap, sym, subst, length, arith}
 use Rattle.std.specs.Prelude.{Result, Ok, Err}
-use Rattle.acsl_bind.specs.Programs.{Binds, Judges, faults_of, fault_of}
+use Rattle.std.proofs.lemmas.Option.{none-some, same_Some}
+use Rattle.acsl_bind.specs.Programs.{Binds, Judges, faults_of}
 use Rattle.acsl_bind.specs.declared.fault.BindFault.{BindFault}
 use Rattle.acsl_bind.specs.declared.fault.BindFault.TheVariants as B
 use Rattle.acsl_notes.specs.Notes.{AreAnnots, IsFirstFault, notes_of}
@@ -26,98 +27,167 @@ use Rattle.c_parse.specs.declared.text.ParseFault.TheVariants as P
 use Rattle.c_types.specs.Programs.{Checks, OneProgram, Repeats}
 use Rattle.c_types.specs.declared.fault.TypeFault.{TypeFault}
 use Rattle.c_types.specs.declared.fault.TypeFault.TheVariants as T
-use Rattle.c_front.specs.declared.tree.Unit.{Unit}
-use Rattle.c_front.specs.Program.{IsProgram, OneTree}
 use Rattle.prop_table.specs.Tables.{Tables}
 use Rattle.prop_table.specs.declared.fault.TableFault.TheVariants as Many
 use Rattle.kernel_serve.specs.Limits.{most_file}
-use Rattle.kernel_serve.specs.Stages.{AtMain, AtTypes, Enters, IsBound, IsRead, IsTypedText, Next, NoTree, has_main, text_of}
+use Rattle.kernel_serve.specs.Stages.{Enters, IsBound, IsRead, IsTypedText, entry_from, text_of}
+use Rattle.kernel_serve.specs.declared.front.Entered.{Entered}
+use Rattle.prop_runs.specs.Numbers.{props_of}
 use Rattle.kernel_serve.specs.declared.status.FrontFault.TheVariants as Fault
-use Rattle.kernel_serve.specs.declared.status.Input.TheVariants as Input
 use Rattle.kernel_serve.specs.declared.status.LimitFault.TheVariants as Limit
 use Rattle.kernel_serve.specs.declared.status.Status.{Status}
 use Rattle.kernel_serve.specs.declared.status.Status.TheVariants as S
-use Rattle.kernel_serve.specs.inner.Steps.{IsBoundAnswer, IsEntryAnswer, IsFileAnswer, IsTypesAnswer, OnlyBound, OnlyOf, OnlyTyped, StopsInFile, StopsInMain, StopsInTypes, acsl_status, bind_status, lex_status, nothing, parse_status, type_status}
+use Rattle.kernel_serve.specs.inner.Steps.{IsBoundAnswer, IsEntryAnswer, IsFileAnswer, IsTypesAnswer, OnlyBound, OnlyEntered, StopsInEntry, StopsInFile, StopsInTypes, acsl_status, bind_status, lex_status, parse_status, type_status}
 
 -- too long
-pub too_long : (file : List ℕ) (status : Status) → most_file < length file → StopsInFile file status → IsFileAnswer file (Err status)
-too_long file status long stops = record { found = tt; stops = stops; only = λ u read. absurd (omega (arith, long, read.within)) }
+pub too_long : (name file : List ℕ) (status : Status) → most_file < length file → StopsInFile name file status
+    → IsFileAnswer name file (Err status)
+too_long name file status long stops =
+    record {
+      table = tt;
+      found = tt;
+      stops = stops;
+      only = λ p g read. absurd
+          (omega (arith, long, read.within));
+    }
 
 -- no memory
-pub no_memory : (file : List ℕ) → IsFileAnswer file (Err S.Memory)
-no_memory file = record { found = tt; stops = tt; only = λ u read. tt }
+pub no_memory : (name file : List ℕ) → IsFileAnswer name file (Err S.Memory)
+no_memory name file = record { table = tt; found = tt; stops = tt; only = λ p g read. tt }
 
 -- no tokens
-lex_stops : (file : List ℕ) (f : LexFault) → length file ≤ most_file → UnlessMemory (Stuck file) f → StopsInFile file (lex_status f)
-lex_stops file L.Memory within h = tt
-lex_stops file (L.BadByte at) within h = inr (within, inl (L.BadByte at, h, (refl, refl)))
-lex_stops file (L.OpenComment at) within h = inr (within, inl (L.OpenComment at, h, (refl, refl)))
-lex_stops file (L.LiteralTooWide at) within h = inr (within, inl (L.LiteralTooWide at, h, (refl, refl)))
-lex_stops file (L.Directive line) within h = inr (within, inl (L.Directive line, h, (refl, refl)))
-lex_stops file (L.NameTooLong at) within h = inr (within, inl (L.NameTooLong at, h, (refl, refl)))
+lex_stops : (name file : List ℕ) (f : LexFault) → length file ≤ most_file → UnlessMemory (Stuck file) f
+    → StopsInFile name file (lex_status f)
+lex_stops name file L.Memory within h = tt
+lex_stops name file (L.BadByte at) within h = inr (within, inl (L.BadByte at, h, (refl, refl)))
+lex_stops name file (L.OpenComment at) within h = inr (within, inl (L.OpenComment at, h, (refl, refl)))
+lex_stops name file (L.LiteralTooWide at) within h = inr (within, inl (L.LiteralTooWide at, h, (refl, refl)))
+lex_stops name file (L.Directive line) within h = inr (within, inl (L.Directive line, h, (refl, refl)))
+lex_stops name file (L.NameTooLong at) within h = inr (within, inl (L.NameTooLong at, h, (refl, refl)))
 
-lex_only : (file : List ℕ) (f : LexFault) (u : Unit) → UnlessMemory (IsOnlyFault file) f → IsRead file u → OnlyOf u (Err (lex_status f))
-lex_only file L.Memory u h read = tt
-lex_only file (L.BadByte at) u h read = h.1 read.tokens read.lexes
-lex_only file (L.OpenComment at) u h read = h.1 read.tokens read.lexes
-lex_only file (L.LiteralTooWide at) u h read = h.1 read.tokens read.lexes
-lex_only file (L.Directive line) u h read = h.1 read.tokens read.lexes
-lex_only file (L.NameTooLong at) u h read = h.1 read.tokens read.lexes
+lex_only : (name file : List ℕ) (f : LexFault) (p : Program) (g : ℕ) → UnlessMemory (IsOnlyFault file) f
+    → IsRead name file p g → OnlyEntered p g (Err (lex_status f))
+lex_only name file L.Memory p g h read = tt
+lex_only name file (L.BadByte at) p g h read = h.1 read.tokens read.lexes
+lex_only name file (L.OpenComment at) p g h read = h.1 read.tokens read.lexes
+lex_only name file (L.LiteralTooWide at) p g h read = h.1 read.tokens read.lexes
+lex_only name file (L.Directive line) p g h read = h.1 read.tokens read.lexes
+lex_only name file (L.NameTooLong at) p g h read = h.1 read.tokens read.lexes
 
-pub no_tokens : (file : List ℕ) (f : LexFault) → length file ≤ most_file → UnlessMemory (Stuck file) f → UnlessMemory (IsOnlyFault file) f → IsFileAnswer file (Err (lex_status f))
-no_tokens file f within stuck one = record { found = tt; stops = lex_stops file f within stuck; only = λ u read. lex_only file f u one read }
+pub no_tokens : (name file : List ℕ) (f : LexFault) → length file ≤ most_file → UnlessMemory (Stuck file) f
+    → UnlessMemory (IsOnlyFault file) f → IsFileAnswer name file (Err (lex_status f))
+no_tokens name file f within stuck one =
+    record {
+      table = tt;
+      found = tt;
+      stops = lex_stops name file f within stuck;
+      only = λ p g read.
+          lex_only name file f p g one read;
+    }
 
 -- no text of C
-parse_stops : (file : List ℕ) (ts : List Token) (f : ParseFault) → length file ≤ most_file → Lexes file ts → IsFault file ts f → StopsInFile file (parse_status f)
-parse_stops file ts P.Memory within lexes h = tt
-parse_stops file ts (P.NotC at) within lexes h = inr (within, inr (ts, lexes, inl (P.NotC at, h, (λ e. absurd cc), (refl, refl))))
-parse_stops file ts (P.Unsupported word at) within lexes h = inr (within, inr (ts, lexes, inl (P.Unsupported word at, h, (λ e. absurd cc), (refl, refl))))
-parse_stops file ts (P.TooDeep at) within lexes h = inr (within, inr (ts, lexes, inl (P.TooDeep at, h, (λ e. absurd cc), (refl, refl))))
+parse_stops : (name file : List ℕ) (ts : List Token) (f : ParseFault) → length file ≤ most_file
+    → Lexes file ts → IsFault file ts f → StopsInFile name file (parse_status f)
+parse_stops name file ts P.Memory within lexes h = tt
+parse_stops name file ts (P.NotC at) within lexes h = inr
+    (within, inr (ts, lexes, inl (P.NotC at, h, (λ e. absurd cc), (refl, refl))))
+parse_stops name file ts (P.Unsupported word at) within lexes h = inr
+    (within, inr (ts, lexes, inl (P.Unsupported word at, h, (λ e. absurd cc), (refl, refl))))
+parse_stops name file ts (P.TooDeep at) within lexes h = inr
+    (within, inr (ts, lexes, inl (P.TooDeep at, h, (λ e. absurd cc), (refl, refl))))
 
-same_items : (file : List ℕ) (ts : List Token) (u : Unit) → AreOnly file ts → (read : IsRead file u) → IsUnit file read.items ts
-same_items file ts u one read = subst (λ (t : List Token). IsUnit file read.items t) (one.0 read.tokens read.lexes) read.parses
+same_items : (name file : List ℕ) (ts : List Token) (p : Program) (g : ℕ) → AreOnly file ts
+    → (read : IsRead name file p g) → IsUnit file read.items ts
+same_items name file ts p g one read = subst (λ (t : List Token). IsUnit file read.items t)
+    (one.0 read.tokens read.lexes) read.parses
 
-parse_only : (file : List ℕ) (ts : List Token) (f : ParseFault) (u : Unit) → AreOnly file ts → ((is : List Item) → IsUnit file is ts → IsOnly is (Err f)) → IsRead file u → OnlyOf u (Err (parse_status f))
-parse_only file ts P.Memory u one only read = tt
-parse_only file ts (P.NotC at) u one only read = only read.items (same_items file ts u one read)
-parse_only file ts (P.Unsupported word at) u one only read = only read.items (same_items file ts u one read)
-parse_only file ts (P.TooDeep at) u one only read = only read.items (same_items file ts u one read)
+parse_only : (name file : List ℕ) (ts : List Token) (f : ParseFault) (p : Program) (g : ℕ) → AreOnly file ts
+    → ((is : List Item) → IsUnit file is ts → IsOnly is (Err f)) → IsRead name file p g
+    → OnlyEntered p g (Err (parse_status f))
+parse_only name file ts P.Memory p g one only read = tt
+parse_only name file ts (P.NotC at) p g one only read = only read.items (same_items name file ts p g one read)
+parse_only name file ts (P.Unsupported word at) p g one only read = only read.items
+    (same_items name file ts p g one read)
+parse_only name file ts (P.TooDeep at) p g one only read = only read.items
+    (same_items name file ts p g one read)
 
-pub no_text : (file : List ℕ) (ts : List Token) (f : ParseFault) → length file ≤ most_file → Lexes file ts → AreOnly file ts → IsFault file ts f → ((is : List Item) → IsUnit file is ts → IsOnly is (Err f)) → IsFileAnswer file (Err (parse_status f))
-no_text file ts f within lexes one fault only = record { found = tt; stops = parse_stops file ts f within lexes fault; only = λ u read. parse_only file ts f u one only read }
+pub no_text : (name file : List ℕ) (ts : List Token) (f : ParseFault) → length file ≤ most_file
+    → Lexes file ts → AreOnly file ts → IsFault file ts f
+    → ((is : List Item) → IsUnit file is ts → IsOnly is (Err f))
+    → IsFileAnswer name file (Err (parse_status f))
+no_text name file ts f within lexes one fault only =
+    record {
+      table = tt;
+      found = tt;
+      stops = parse_stops name file ts f within lexes fault;
+      only = λ p g read.
+          parse_only name file ts f p g one only read;
+    }
 
 -- a note that is no annotation
-acsl_stops : (file : List ℕ) (ts : List Token) (is : List Item) (f : AcslFault) → length file ≤ most_file → Lexes file ts → IsUnit file is ts → IsFirstFault file (notes_of ts) f → StopsInFile file (acsl_status f)
-acsl_stops file ts is A.Memory within lexes parses h = tt
-acsl_stops file ts is (A.NotAcsl at) within lexes parses h = inr (within, inr (ts, lexes, inr (is, parses, inl (A.NotAcsl at, h, (λ e. absurd cc), (refl, refl)))))
-acsl_stops file ts is (A.Unsupported word at) within lexes parses h = inr (within, inr (ts, lexes, inr (is, parses, inl (A.Unsupported word at, h, (λ e. absurd cc), (refl, refl)))))
-acsl_stops file ts is (A.TooDeep at) within lexes parses h = inr (within, inr (ts, lexes, inr (is, parses, inl (A.TooDeep at, h, (λ e. absurd cc), (refl, refl)))))
+acsl_stops : (name file : List ℕ) (ts : List Token) (is : List Item) (f : AcslFault) → length file ≤ most_file
+    → Lexes file ts → IsUnit file is ts → IsFirstFault file (notes_of ts) f
+    → StopsInFile name file (acsl_status f)
+acsl_stops name file ts is A.Memory within lexes parses h = tt
+acsl_stops name file ts is (A.NotAcsl at) within lexes parses h = inr
+    (within, inr (ts, lexes, inr (is, parses, inl (A.NotAcsl at, h, (λ e. absurd cc), (refl, refl)))))
+acsl_stops name file ts is (A.Unsupported word at) within lexes parses h = inr (
+  within,
+  inr (
+    ts,
+    lexes,
+    inr
+        (is, parses, inl (A.Unsupported word at, h, (λ e. absurd cc), (refl, refl))),
+  ),
+)
+acsl_stops name file ts is (A.TooDeep at) within lexes parses h = inr
+    (within, inr (ts, lexes, inr (is, parses, inl (A.TooDeep at, h, (λ e. absurd cc), (refl, refl)))))
 
-same_annots : (file : List ℕ) (ts : List Token) (u : Unit) → AreOnly file ts → (read : IsRead file u) → AreAnnots file read.annots (notes_of ts)
-same_annots file ts u one read = subst (λ (t : List Token). AreAnnots file read.annots (notes_of t)) (one.0 read.tokens read.lexes) read.noted
+same_annots : (name file : List ℕ) (ts : List Token) (p : Program) (g : ℕ) → AreOnly file ts
+    → (read : IsRead name file p g) → AreAnnots file read.annots (notes_of ts)
+same_annots name file ts p g one read = subst (λ (t : List Token). AreAnnots file read.annots (notes_of t))
+    (one.0 read.tokens read.lexes) read.noted
 
-acsl_only : (file : List ℕ) (ts : List Token) (f : AcslFault) (u : Unit) → AreOnly file ts → ((xs : List Annot) → AreAnnots file xs (notes_of ts) → annot.IsOnly xs (Err f)) → IsRead file u → OnlyOf u (Err (acsl_status f))
-acsl_only file ts A.Memory u one only read = tt
-acsl_only file ts (A.NotAcsl at) u one only read = only read.annots (same_annots file ts u one read)
-acsl_only file ts (A.Unsupported word at) u one only read = only read.annots (same_annots file ts u one read)
-acsl_only file ts (A.TooDeep at) u one only read = only read.annots (same_annots file ts u one read)
+acsl_only : (name file : List ℕ) (ts : List Token) (f : AcslFault) (p : Program) (g : ℕ) → AreOnly file ts
+    → ((xs : List Annot) → AreAnnots file xs (notes_of ts) → annot.IsOnly xs (Err f)) → IsRead name file p g
+    → OnlyEntered p g (Err (acsl_status f))
+acsl_only name file ts A.Memory p g one only read = tt
+acsl_only name file ts (A.NotAcsl at) p g one only read = only read.annots
+    (same_annots name file ts p g one read)
+acsl_only name file ts (A.Unsupported word at) p g one only read = only read.annots
+    (same_annots name file ts p g one read)
+acsl_only name file ts (A.TooDeep at) p g one only read = only read.annots
+    (same_annots name file ts p g one read)
 
-pub no_notes : (file : List ℕ) (ts : List Token) (is : List Item) (f : AcslFault) → length file ≤ most_file → Lexes file ts → AreOnly file ts → IsUnit file is ts → IsFirstFault file (notes_of ts) f → ((xs : List Annot) → AreAnnots file xs (notes_of ts) → annot.IsOnly xs (Err f)) → IsFileAnswer file (Err (acsl_status f))
-no_notes file ts is f within lexes one parses fault only = record { found = tt; stops = acsl_stops file ts is f within lexes parses fault; only = λ u read. acsl_only file ts f u one only read }
+pub no_notes : (name file : List ℕ) (ts : List Token) (is : List Item) (f : AcslFault)
+    → length file ≤ most_file → Lexes file ts → AreOnly file ts → IsUnit file is ts
+    → IsFirstFault file (notes_of ts) f
+    → ((xs : List Annot) → AreAnnots file xs (notes_of ts) → annot.IsOnly xs (Err f))
+    → IsFileAnswer name file (Err (acsl_status f))
+no_notes name file ts is f within lexes one parses fault only =
+    record {
+      table = tt;
+      found = tt;
+      stops = acsl_stops name file ts is f within lexes parses fault;
+      only =
+          λ p g read. acsl_only name file ts f p g one only read;
+    }
 
 -- no program
-types_stops : (file : List ℕ) (is : List Item) (annots : List Annot) (f : TypeFault) → Checks (text_of is) (Err f) → StopsInTypes file is annots (type_status f)
-types_stops file is annots T.Memory h = tt
-types_stops file is annots (T.Unknown x) h = inl (T.Unknown x, h, (λ e. absurd cc), (refl, refl))
-types_stops file is annots (T.Twice x) h = inl (T.Twice x, h, (λ e. absurd cc), (refl, refl))
-types_stops file is annots (T.BadType at) h = inl (T.BadType at, h, (λ e. absurd cc), (refl, refl))
-types_stops file is annots (T.Arity at) h = inl (T.Arity at, h, (λ e. absurd cc), (refl, refl))
-types_stops file is annots (T.SideEffect at) h = inl (T.SideEffect at, h, (λ e. absurd cc), (refl, refl))
-types_stops file is annots (T.Recursive x) h = inl (T.Recursive x, h, (λ e. absurd cc), (refl, refl))
-types_stops file is annots (T.ConstWrite at) h = inl (T.ConstWrite at, h, (λ e. absurd cc), (refl, refl))
-types_stops file is annots (T.TooManyCells n) h = inl (T.TooManyCells n, h, (λ e. absurd cc), (refl, refl))
+types_stops : (name : List ℕ) (is : List Item) (annots : List Annot) (f : TypeFault)
+    → Checks (text_of is) (Err f) → StopsInTypes name is annots (type_status f)
+types_stops name is annots T.Memory h = tt
+types_stops name is annots (T.Unknown x) h = inl (T.Unknown x, h, (λ e. absurd cc), (refl, refl))
+types_stops name is annots (T.Twice x) h = inl (T.Twice x, h, (λ e. absurd cc), (refl, refl))
+types_stops name is annots (T.BadType at) h = inl (T.BadType at, h, (λ e. absurd cc), (refl, refl))
+types_stops name is annots (T.Arity at) h = inl (T.Arity at, h, (λ e. absurd cc), (refl, refl))
+types_stops name is annots (T.SideEffect at) h = inl (T.SideEffect at, h, (λ e. absurd cc), (refl, refl))
+types_stops name is annots (T.Recursive x) h = inl (T.Recursive x, h, (λ e. absurd cc), (refl, refl))
+types_stops name is annots (T.ConstWrite at) h = inl (T.ConstWrite at, h, (λ e. absurd cc), (refl, refl))
+types_stops name is annots (T.TooManyCells n) h = inl (T.TooManyCells n, h, (λ e. absurd cc), (refl, refl))
 
-types_only : (f : TypeFault) (s : Skeleton) (p : Program) → Repeats s (Err f) → OnlyBound p (Err (type_status f))
+types_only : (f : TypeFault) (s : Skeleton) (p : Program) → Repeats s (Err f)
+    → OnlyBound p (Err (type_status f))
 types_only T.Memory s p h = tt
 types_only (T.Unknown x) s p h = h
 types_only (T.Twice x) s p h = h
@@ -128,22 +198,28 @@ types_only (T.Recursive x) s p h = h
 types_only (T.ConstWrite at) s p h = h
 types_only (T.TooManyCells n) s p h = h
 
-pub no_types : OneProgram → (is : List Item) (annots : List Annot) (f : TypeFault) → Checks (text_of is) (Err f) → IsBoundAnswer is annots (Err (type_status f))
+pub no_types : OneProgram → (is : List Item) (annots : List Annot) (f : TypeFault)
+    → Checks (text_of is) (Err f) → IsBoundAnswer is annots (Err (type_status f))
 no_types law is annots f h = record {
   found = tt;
-  stops = λ file. types_stops file is annots f h;
+  stops = λ name. types_stops name is annots f h;
   only = λ p b. types_only f b.skeleton p (law (text_of is) b.skeleton (Err f) b.checks h);
 }
 
 -- an annotation in breach
-bind_stops : (file : List ℕ) (is : List Item) (annots : List Annot) (s : Skeleton) (f : BindFault) → Checks (text_of is) (Ok s) → Binds s annots (Err f) → StopsInTypes file is annots (bind_status f)
-bind_stops file is annots s B.Memory checks h = tt
-bind_stops file is annots s (B.Unknown x) checks h = inr (s, checks, inl (B.Unknown x, h, (λ e. absurd cc), (refl, refl)))
-bind_stops file is annots s (B.NotHere at) checks h = inr (s, checks, inl (B.NotHere at, h, (λ e. absurd cc), (refl, refl)))
-bind_stops file is annots s (B.BadType at) checks h = inr (s, checks, inl (B.BadType at, h, (λ e. absurd cc), (refl, refl)))
+bind_stops : (name : List ℕ) (is : List Item) (annots : List Annot) (s : Skeleton) (f : BindFault)
+    → Checks (text_of is) (Ok s) → Binds s annots (Err f) → StopsInTypes name is annots (bind_status f)
+bind_stops name is annots s B.Memory checks h = tt
+bind_stops name is annots s (B.Unknown x) checks h = inr
+    (s, checks, inl (B.Unknown x, h, (λ e. absurd cc), (refl, refl)))
+bind_stops name is annots s (B.NotHere at) checks h = inr
+    (s, checks, inl (B.NotHere at, h, (λ e. absurd cc), (refl, refl)))
+bind_stops name is annots s (B.BadType at) checks h = inr
+    (s, checks, inl (B.BadType at, h, (λ e. absurd cc), (refl, refl)))
 
 -- a skeleton and annotations have no program where they have a fault
-judged : (s : Skeleton) (annots : List Annot) (first : Option NoteBreach) (p : Program) (f : BindFault) → Judges s annots first (Ok p) → Judges s annots first (Err f) → OnlyBound p (Err (bind_status f))
+judged : (s : Skeleton) (annots : List Annot) (first : Option NoteBreach) (p : Program) (f : BindFault)
+    → Judges s annots first (Ok p) → Judges s annots first (Err f) → OnlyBound p (Err (bind_status f))
 judged s annots first p B.Memory made h = tt
 judged s annots None p (B.Unknown x) made h = h
 judged s annots None p (B.NotHere at) made h = h
@@ -153,95 +229,139 @@ judged s annots (Some b) p (B.NotHere at) made h = made
 judged s annots (Some b) p (B.BadType at) made h = made
 
 -- and else one
-one_judged : (s : Skeleton) (annots : List Annot) (first : Option NoteBreach) (p q : Program) → Judges s annots first (Ok p) → Judges s annots first (Ok q) → p ≡ q
+one_judged : (s : Skeleton) (annots : List Annot) (first : Option NoteBreach) (p q : Program)
+    → Judges s annots first (Ok p) → Judges s annots first (Ok q) → p ≡ q
 one_judged s annots None p q made again = made ∙ sym again
 one_judged s annots (Some b) p q made again = absurd made
 
-same_skeleton : OneProgram → (is : List Item) (annots : List Annot) (s : Skeleton) (p : Program) → Checks (text_of is) (Ok s) → (b : IsBound is annots p) → Binds s annots (Ok p)
-same_skeleton law is annots s p checks b = subst (λ (k : Skeleton). Binds k annots (Ok p)) (sym (law (text_of is) b.skeleton (Ok s) b.checks checks)) b.binds
+same_skeleton : OneProgram → (is : List Item) (annots : List Annot) (s : Skeleton) (p : Program)
+    → Checks (text_of is) (Ok s) → (b : IsBound is annots p) → Binds s annots (Ok p)
+same_skeleton law is annots s p checks b = subst (λ (k : Skeleton). Binds k annots (Ok p))
+    (sym (law (text_of is) b.skeleton (Ok s) b.checks checks)) b.binds
 
-pub no_binding : OneProgram → (is : List Item) (annots : List Annot) (s : Skeleton) (f : BindFault) → Checks (text_of is) (Ok s) → Binds s annots (Err f) → IsBoundAnswer is annots (Err (bind_status f))
+pub no_binding : OneProgram → (is : List Item) (annots : List Annot) (s : Skeleton) (f : BindFault)
+    → Checks (text_of is) (Ok s) → Binds s annots (Err f) → IsBoundAnswer is annots (Err (bind_status f))
 no_binding law is annots s f checks h = record {
   found = tt;
-  stops = λ file. bind_stops file is annots s f checks h;
-  only = λ p b. judged s annots (least None (faults_of s annots)) p f (same_skeleton law is annots s p checks b) h;
+  stops = λ name. bind_stops name is annots s f checks h;
+  only = λ p b. judged s annots (least None (faults_of s annots)) p f
+      (same_skeleton law is annots s p checks b) h;
 }
 
-pub is_bound : OneProgram → (is : List Item) (annots : List Annot) (s : Skeleton) (p : Program) → Checks (text_of is) (Ok s) → Binds s annots (Ok p) → IsBoundAnswer is annots (Ok p)
+pub is_bound : OneProgram → (is : List Item) (annots : List Annot) (s : Skeleton) (p : Program)
+    → Checks (text_of is) (Ok s) → Binds s annots (Ok p) → IsBoundAnswer is annots (Ok p)
 is_bound law is annots s p checks h = record {
   found = record { skeleton = s; checks = checks; binds = h };
-  stops = λ file. tt;
-  only = λ q b. one_judged s annots (least None (faults_of s annots)) p q h (same_skeleton law is annots s q checks b);
+  stops = λ name. tt;
+  only = λ q b. one_judged s annots (least None (faults_of s annots)) p q h
+      (same_skeleton law is annots s q checks b);
 }
+
+-- no entry function
+pub no_entry : (name shown : List ℕ) (p : Program) → shown ≡ name → entry_from name 0 p.fns ≡ None
+    → IsEntryAnswer name p (Err (S.Refused (Fault.Types (T.Unknown shown))))
+no_entry name shown p same none = record {
+  same = tt;
+  found = tt;
+  stops = inl (none, (ap (λ (x : List ℕ). S.Refused (Fault.Types (T.Unknown x))) same, refl));
+  only = λ g e. absurd (none-some g (sym none ∙ e.entry));
+}
+
+pub no_room : (name : List ℕ) (p : Program) → IsEntryAnswer name p (Err S.Memory)
+no_room name p = record { same = tt; found = tt; stops = tt; only = λ g e. tt }
 
 -- too many properties
-pub too_many : (p : Program) (n : ℕ) → has_main p.fns ≡ true → Tables p (Err (Many.TooManyProps n)) → IsEntryAnswer p (Err (S.Limit (Limit.TooManyProps n)))
+pub too_many : (name : List ℕ) (p : Program) (g n : ℕ) → entry_from name 0 p.fns ≡ Some g
+    → Tables p (Err (Many.TooManyProps n)) → IsEntryAnswer name p (Err (S.Limit (Limit.TooManyProps n)))
 unfolding Tables
-too_many p n main h = record {
+too_many name p g n is h = record {
+  same = tt;
   found = tt;
-  stops = λ file. inr (main, inl (n, h, (refl, refl)));
-  only = λ e. absurd (omega (arith, h.0, e.tables.0));
+  stops = inr (g, is, inl (n, h, (refl, refl)));
+  only = λ k e. absurd (omega (arith, h.0, e.tables.0));
 }
 
+table_of : (p : Program) (t : Props) → Tables p (Ok t) → t ≡ props_of p
+unfolding Tables
+table_of p t h = h.1
+
 -- few enough
-pub few : (p : Program) (t : Props) → has_main p.fns ≡ true → Tables p (Ok t) → IsEntryAnswer p (Ok tt)
-few p t main h = record {
-  found = record { main = main; table = t; tables = h };
-  stops = λ file. tt;
-  only = λ e. tt;
+pub few : (name : List ℕ) (p : Program) (e : Entered) → entry_from name 0 p.fns ≡ Some e.entry
+    → Tables p (Ok e.props) → e.program ≡ p → IsEntryAnswer name p (Ok e)
+few name p e is h same = record {
+  same = (same, table_of p e.props h ∙ ap props_of (sym same));
+  found = record { entry = is; table = e.props; tables = h };
+  stops = tt;
+  only = λ g k. (same, same_Some e.entry g (sym is ∙ k.entry));
 }
 
 -- no program, or one that isn't entered
-entry_stops : (file : List ℕ) (is : List Item) (annots : List Annot) (p : Program) (status : Status) → IsBound is annots p → StopsInMain file p status → StopsInTypes file is annots status
-entry_stops file is annots p S.Memory b h = tt
-entry_stops file is annots p (S.Refused fault) b h = inr (b.skeleton, b.checks, inr (p, b.binds, h))
-entry_stops file is annots p (S.Limit fault) b h = inr (b.skeleton, b.checks, inr (p, b.binds, h))
-entry_stops file is annots p S.Done b h = h
-entry_stops file is annots p S.Usage b h = h
-entry_stops file is annots p S.ReadFault b h = h
-entry_stops file is annots p S.WriteFault b h = h
+entry_stops : (name : List ℕ) (is : List Item) (annots : List Annot) (p : Program) (status : Status)
+    → IsBound is annots p → StopsInEntry name p status → StopsInTypes name is annots status
+entry_stops name is annots p S.Memory b h = tt
+entry_stops name is annots p (S.Refused fault) b h = inr (b.skeleton, b.checks, inr (p, b.binds, h))
+entry_stops name is annots p (S.Limit fault) b h = inr (b.skeleton, b.checks, inr (p, b.binds, h))
+entry_stops name is annots p S.Done b h = h
+entry_stops name is annots p S.Usage b h = h
+entry_stops name is annots p S.ReadFault b h = h
+entry_stops name is annots p S.WriteFault b h = h
 
-unbound : (status : Status) (p : Program) → OnlyBound p (Err status) → OnlyTyped (Err status)
-unbound S.Memory p h = tt
-unbound (S.Refused fault) p h = h
-unbound (S.Limit fault) p h = h
-unbound S.Done p h = h
-unbound S.Usage p h = h
-unbound S.ReadFault p h = h
-unbound S.WriteFault p h = h
+unbound : (status : Status) (p : Program) (g : ℕ) → OnlyBound p (Err status) → OnlyEntered p g (Err status)
+unbound S.Memory p g h = tt
+unbound (S.Refused fault) p g h = h
+unbound (S.Limit fault) p g h = h
+unbound S.Done p g h = h
+unbound S.Usage p g h = h
+unbound S.ReadFault p g h = h
+unbound S.WriteFault p g h = h
 
-pub not_bound : (is : List Item) (annots : List Annot) (status : Status) → IsBoundAnswer is annots (Err status) → IsTypesAnswer is annots (Err status)
-not_bound is annots status h = record { found = tt; stops = h.stops; only = λ t. unbound status t.program (h.only t.program t.bound) }
+pub not_bound : (name : List ℕ) (is : List Item) (annots : List Annot) (status : Status)
+    → IsBoundAnswer is annots (Err status) → IsTypesAnswer name is annots (Err status)
+not_bound name is annots status h =
+    record {
+      table = tt;
+      found = tt;
+      stops = h.stops name;
+      only = λ p g t. unbound status p g
+          (h.only p t.bound);
+    }
 
-pub entry_found : (is : List Item) (annots : List Annot) (p : Program) (answer : Result (Prim.Unit {0}) Status) → IsBoundAnswer is annots (Ok p) → IsEntryAnswer p answer → IsTypesAnswer is annots answer
-entry_found is annots p (Ok x) b h = record {
-  found = record { program = p; bound = b.found; enters = h.found };
-  stops = λ file. tt;
-  only = λ t. tt;
+pub entry_found : (name : List ℕ) (is : List Item) (annots : List Annot) (p : Program)
+    (answer : Result Entered Status) → IsBoundAnswer is annots (Ok p) → IsEntryAnswer name p answer
+    → IsTypesAnswer name is annots answer
+entry_found name is annots p (Ok e) b h = record {
+  table = h.same.1;
+  found = record {
+    bound = subst (λ (q : Program). IsBound is annots q) (sym h.same.0) b.found;
+    enters = subst
+        (λ (q : Program). Enters name q e.entry) (sym h.same.0) h.found;
+  };
+  stops = tt;
+  only = λ q g t. let same : p
+      ≡ q = b.only q t.bound in subst (λ (r : Program). OnlyEntered r g (Ok e)) same
+      (h.only g (subst (λ (r : Program). Enters name r g) (sym same) t.enters));
 }
-entry_found is annots p (Err status) b h = record {
+entry_found name is annots p (Err status) b h = record {
+  table = tt;
   found = tt;
-  stops = λ file. entry_stops file is annots p status b.found (h.stops file);
-  only = λ t. h.only (subst Enters (sym (b.only t.program t.bound)) t.enters);
+  stops = entry_stops name is annots p status b.found h.stops;
+  only = λ q g t. let same : p
+      ≡ q = b.only q t.bound in subst (λ (r : Program). OnlyEntered r g (Err status)) same
+      (h.only g (subst (λ (r : Program). Enters name r g) (sym same) t.enters));
 }
 
-typed_stops : (file : List ℕ) (ts : List Token) (is : List Item) (annots : List Annot) (status : Status) → length file ≤ most_file → Lexes file ts → IsUnit file is ts → AreAnnots file annots (notes_of ts) → StopsInTypes file is annots status → StopsInFile file status
-typed_stops file ts is annots S.Memory within lexes parses noted h = tt
-typed_stops file ts is annots (S.Refused fault) within lexes parses noted h = inr (within, inr (ts, lexes, inr (is, parses, inr (annots, noted, h))))
-typed_stops file ts is annots (S.Limit fault) within lexes parses noted h = inr (within, inr (ts, lexes, inr (is, parses, inr (annots, noted, h))))
-typed_stops file ts is annots S.Done within lexes parses noted h = h
-typed_stops file ts is annots S.Usage within lexes parses noted h = h
-typed_stops file ts is annots S.ReadFault within lexes parses noted h = h
-typed_stops file ts is annots S.WriteFault within lexes parses noted h = h
-
-only_status : (status : Status) (u : Unit) → OnlyTyped (Err status) → OnlyOf u (Err status)
-only_status S.Memory u h = tt
-only_status (S.Refused fault) u h = h
-only_status (S.Limit fault) u h = h
-only_status S.Done u h = h
-only_status S.Usage u h = h
-only_status S.ReadFault u h = h
-only_status S.WriteFault u h = h
+typed_stops : (name file : List ℕ) (ts : List Token) (is : List Item) (annots : List Annot) (status : Status)
+    → length file ≤ most_file → Lexes file ts → IsUnit file is ts → AreAnnots file annots (notes_of ts)
+    → StopsInTypes name is annots status → StopsInFile name file status
+typed_stops name file ts is annots S.Memory within lexes parses noted h = tt
+typed_stops name file ts is annots (S.Refused fault) within lexes parses noted h = inr
+    (within, inr (ts, lexes, inr (is, parses, inr (annots, noted, h))))
+typed_stops name file ts is annots (S.Limit fault) within lexes parses noted h = inr
+    (within, inr (ts, lexes, inr (is, parses, inr (annots, noted, h))))
+typed_stops name file ts is annots S.Done within lexes parses noted h = h
+typed_stops name file ts is annots S.Usage within lexes parses noted h = h
+typed_stops name file ts is annots S.ReadFault within lexes parses noted h = h
+typed_stops name file ts is annots S.WriteFault within lexes parses noted h = h
 
 -- what was read of a file so far
 pub record Parts (file : List ℕ) (ts : List Token) (tree : Tree) (annots : List Annot) : Type 0 where
@@ -254,45 +374,56 @@ pub record Parts (file : List ℕ) (ts : List Token) (tree : Tree) (annots : Lis
   pub only_noted : (xs : List Annot) → AreAnnots file xs (notes_of ts) → annot.IsOnly xs (Ok annots)
 
 -- by what the code has
-pub parts_of : (file : List ℕ) (all ts again : List Token) (tree : Tree) (made annots : List Annot) → length file ≤ most_file → ts ≡ all → again ≡ all → annots ≡ made → Lexes file all → AreOnly file all → IsUnit file tree.items ts → ((is : List Item) → IsUnit file is ts → IsOnly is (Ok tree)) → AreAnnots file made (notes_of again) → ((xs : List Annot) → AreAnnots file xs (notes_of again) → annot.IsOnly xs (Ok made)) → Parts file all tree annots
-parts_of file all ts again tree made annots within is_ts is_again is_annots lexes one parses only noted only_noted = record {
-  within = within;
-  lexes = lexes;
-  one = one;
-  parses = subst (λ (t : List Token). IsUnit file tree.items t) is_ts parses;
-  only = subst (λ (t : List Token). (is : List Item) → IsUnit file is t → IsOnly is (Ok tree)) is_ts only;
-  noted = subst (λ (xs : List Annot). AreAnnots file xs (notes_of all)) (sym is_annots) (subst (λ (t : List Token). AreAnnots file made (notes_of t)) is_again noted);
-  only_noted = subst (λ (ys : List Annot). (xs : List Annot) → AreAnnots file xs (notes_of all) → annot.IsOnly xs (Ok ys)) (sym is_annots)
-      (subst (λ (t : List Token). (xs : List Annot) → AreAnnots file xs (notes_of t) → annot.IsOnly xs (Ok made)) is_again only_noted);
-}
-
-typed_of : (file : List ℕ) (ts : List Token) (tree : Tree) (annots : List Annot) (u : Unit) → Parts file ts tree annots → (read : IsRead file u) → IsTypedText tree.items annots
-typed_of file ts tree annots u h read =
-    subst (λ (xs : List Annot). IsTypedText tree.items xs) (h.only_noted read.annots (same_annots file ts u h.one read))
-    (subst (λ (is : List Item). IsTypedText is read.annots) (h.only read.items (same_items file ts u h.one read)) read.typed)
-
-pub not_typed : (file : List ℕ) (ts : List Token) (tree : Tree) (annots : List Annot) (status : Status) → Parts file ts tree annots → IsTypesAnswer tree.items annots (Err status) → IsFileAnswer file (Err status)
-not_typed file ts tree annots status h answer = record {
-  found = tt;
-  stops = typed_stops file ts tree.items annots status h.within h.lexes h.parses h.noted (answer.stops file);
-  only = λ u read. only_status status u (answer.only (typed_of file ts tree annots u h read));
-}
-
--- no program of the small language
-pub no_program : (file : List ℕ) (ts : List Token) (tree : Tree) (annots : List Annot) → Parts file ts tree annots → IsTypedText tree.items annots → NoTree file → IsFileAnswer file (Err (S.Refused (Fault.Unbuilt Input.File)))
-no_program file ts tree annots h t none =
-    let b = t.bound in
-    let e = t.enters in
-    record {
-      found = tt;
-      stops = inr (h.within, inr (ts, h.lexes, inr (tree.items, h.parses, inr (annots, h.noted, inr (b.skeleton, b.checks, inr (t.program, b.binds, inr (e.main, inr (e.table, e.tables, inl (none, (refl, refl))))))))));
-      only = λ u read. absurd (none u read.is_program);
+pub parts_of : (file : List ℕ) (all ts again : List Token) (tree : Tree) (made annots : List Annot)
+    → length file ≤ most_file → ts ≡ all → again ≡ all → annots ≡ made → Lexes file all → AreOnly file all
+    → IsUnit file tree.items ts → ((is : List Item) → IsUnit file is ts → IsOnly is (Ok tree))
+    → AreAnnots file made (notes_of again)
+    → ((xs : List Annot) → AreAnnots file xs (notes_of again) → annot.IsOnly xs (Ok made))
+    → Parts file all tree annots
+parts_of file all ts again tree made annots within is_ts is_again is_annots lexes one parses only noted
+    only_noted = record {
+      within = within;
+      lexes = lexes;
+      one = one;
+      parses = subst (λ (t : List Token). IsUnit file tree.items t) is_ts parses;
+      only = subst (λ (t : List Token). (is : List Item) → IsUnit file is t → IsOnly is (Ok tree)) is_ts only;
+      noted = subst (λ (xs : List Annot). AreAnnots file xs (notes_of all)) (sym is_annots)
+          (subst (λ (t : List Token). AreAnnots file made (notes_of t)) is_again noted);
+      only_noted = subst (λ (ys : List Annot). (xs : List Annot) → AreAnnots file xs (notes_of all)
+          → annot.IsOnly xs (Ok ys)) (sym is_annots)
+          (subst (λ (t : List Token). (xs : List Annot) → AreAnnots file xs (notes_of t)
+          → annot.IsOnly xs (Ok made)) is_again only_noted);
     }
 
--- a program of it
-pub one_program : OneTree → (file : List ℕ) (ts : List Token) (tree : Tree) (annots : List Annot) (u : Unit) → Parts file ts tree annots → IsTypedText tree.items annots → IsProgram file u → IsFileAnswer file (Ok u)
-one_program law file ts tree annots u h typed program = record {
-  found = record { within = h.within; tokens = ts; lexes = h.lexes; items = tree.items; parses = h.parses; annots = annots; noted = h.noted; typed = typed; is_program = program };
+typed_of : (name file : List ℕ) (ts : List Token) (tree : Tree) (annots : List Annot) (p : Program) (g : ℕ)
+    → Parts file ts tree annots → (read : IsRead name file p g) → IsTypedText name tree.items annots p g
+typed_of name file ts tree annots p g h read =
+    subst (λ (xs : List Annot). IsTypedText name tree.items xs p g)
+    (h.only_noted read.annots (same_annots name file ts p g h.one read))
+    (subst (λ (is : List Item). IsTypedText name is read.annots p g)
+    (h.only read.items (same_items name file ts p g h.one read)) read.typed)
+
+pub types_answer : (name file : List ℕ) (ts : List Token) (tree : Tree) (annots : List Annot)
+    (answer : Result Entered Status) → Parts file ts tree annots → IsTypesAnswer name tree.items annots answer
+    → IsFileAnswer name file answer
+types_answer name file ts tree annots (Err status) h answer = record {
+  table = tt;
+  found = tt;
+  stops = typed_stops name file ts tree.items annots status h.within h.lexes h.parses h.noted answer.stops;
+  only = λ p g read. answer.only p g (typed_of name file ts tree annots p g h read);
+}
+types_answer name file ts tree annots (Ok e) h answer = record {
+  table = answer.table;
+  found = record {
+    within = h.within;
+    tokens = ts;
+    lexes = h.lexes;
+    items = tree.items;
+    parses = h.parses;
+    annots = annots;
+    noted = h.noted;
+    typed = answer.found;
+  };
   stops = tt;
-  only = λ v read. law file u v program read.is_program;
+  only = λ p g read. answer.only p g (typed_of name file ts tree annots p g h read);
 }

@@ -3,5 +3,6 @@ pub mod Ended
 pub mod External
 pub mod FirstLine
 pub mod Fronted
+pub mod Named
 pub mod Stopped
 pub mod Whole

@@ -36,7 +36,8 @@ is_registered cs e = is_external e && nat_lt e.0 (emitters_of cs)
 
 -- whether an entry names properties of the table alone, and at most 256 hypotheses
 abbrev pub is_of_table : Props → Entry → Bool
-is_of_table t e = is_row t e.prop.0 && list_all (λ (q : PropId). is_row t q.0) e.hyps && nat_le (length e.hyps) 256
+is_of_table t e = is_row t e.prop.0 && list_all (λ (q : PropId). is_row t q.0) e.hyps && nat_le
+    (length e.hyps) 256
 
 -- whether an emitter can be registered under a name: no emitter has it, and there are fewer than 256
 abbrev pub is_new : List Change → List ℕ → Bool

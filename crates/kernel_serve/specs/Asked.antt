@@ -1,10 +1,10 @@
 -- What a call asks of its shelf: `WasAsked` (this project's own).
 use Rattle.std.specs.Prelude.{◌≡◌, ◌⊎◌, ◌+◌, ℕ, List, Option, None, Some}
-use Rattle.c_front.specs.declared.tree.Unit.{Unit}
+use Rattle.c_ir.specs.Programs.{Program}
 use Rattle.fc_outside.specs.Contents.{contents_of}
 use Rattle.fc_outside.specs.Requests.{Requests, AskedAtMost}
 use Rattle.kernel_serve.specs.Limits.{most_file, most_script}
-use Rattle.kernel_serve.specs.Stages.{IsRead}
+use Rattle.kernel_serve.specs.Stages.{IsRead, entry_name}
 use Rattle.kernel_serve.specs.Told.{Files}
 use Rattle.kernel_serve.specs.Words.{Command, report_command}
 
@@ -16,15 +16,22 @@ abbrev pub ReadsScript : List ℕ → Option Requests → Option Requests → Ty
 ReadsScript name old new = AskedAtMost name (most_script + 1) old new
 
 -- the named file passes all its stages, where the files are told
-abbrev pub HasProgram : Option Files → List ℕ → Type 0
-HasProgram None name = Prim.Unit {0}
-HasProgram (Some files) name = (u : Unit) × IsRead (contents_of name files) u
+abbrev pub HasProgram : Option Files → Command → Type 0
+HasProgram None c = Prim.Unit {0}
+HasProgram (Some files) c = (p : Program) × (g : ℕ)
+    × IsRead (entry_name c.main) (contents_of c.file files) p g
+
+-- the script, if one is named
+abbrev pub ReadsIfNamed : Option (List ℕ) → Option Requests → Option Requests → Type 0
+ReadsIfNamed None old new = new ≡ old
+ReadsIfNamed (Some name) old new = ReadsScript name old new
 
 -- the file alone; or the file and then the script, where the file is a program
 abbrev pub AsksFiles : Option Files → Option Requests → Option Requests → Command → Type 0
 AsksFiles files old new c =
     ReadsFile c.file old new
-    ⊎ ((mid : Option Requests) × ReadsFile c.file old mid × ReadsScript c.script mid new × HasProgram files c.file)
+    ⊎ ((mid : Option Requests) × ReadsFile c.file old mid × ReadsIfNamed c.script mid new
+    × HasProgram files c)
 
 -- nothing, where the words are no command
 abbrev pub AsksFor : Option Files → Option Requests → Option Requests → Option Command → Type 0

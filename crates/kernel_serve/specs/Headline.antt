@@ -1,9 +1,10 @@
--- What a call of `report_run` comes to, `Outcome`, and what it says of the program's runs, `Says`, where the shelf
+-- What a call of `report_run` comes to, `Outcome`, and what it says of the program's runs, `Says`, where the
+-- shelf
 -- tells its files and the sink the bytes that it holds (this project's own).
-use Rattle.std.specs.Prelude.{◌≡◌, ◌⊎◌, ◌<◌, ◌≤◌, ◌++◌, ℕ, false, List, Option, Some, length, take}
-use Rattle.c_front.specs.declared.tree.Unit.{Unit}
-use Rattle.c_front.specs.Rows.{props_of}
-use Rattle.c_first_runs.specs.Run.{runs_of}
+use Rattle.std.specs.Prelude.{◌≡◌, ◌⊎◌, ◌<◌, ◌++◌, ℕ, List, Option, Some, length, take}
+use Rattle.c_ir.specs.Programs.{Program}
+use Rattle.prop_runs.specs.Numbers.{props_of, runs_of}
+use Rattle.prop_table.specs.Rows.{rows_of}
 use Rattle.fc_outside.specs.Contents.{contents_of}
 use Rattle.report_print.specs.Report.{report_text}
 use Rattle.status_history.specs.declared.history.Change.{Change}
@@ -12,27 +13,27 @@ use Rattle.status_rules.specs.Truth.{AllTrue, ExternalRight}
 use Rattle.status_rules.specs.Verdicts.{full_of}
 use Rattle.kernel_serve.specs.declared.status.Status.{Status}
 use Rattle.kernel_serve.specs.declared.status.Status.TheVariants as S
-use Rattle.kernel_serve.specs.Limits.{most_script}
-use Rattle.kernel_serve.specs.Script.{changes_of}
-use Rattle.kernel_serve.specs.Stages.{IsRead, Works, history_of, report_of}
+use Rattle.kernel_serve.specs.Stages.{IsRead, Makes, Works, entry_name, history_of, report_of, script_of}
 use Rattle.kernel_serve.specs.Told.{Files}
 use Rattle.kernel_serve.specs.Words.{Command, report_command}
 
 -- Bytes of a report and what they say of runs.
 pub record TrueReport (command : Command) (files : Files) (out : List ℕ) : Type 0 where
-  -- the tree of the named file
-  pub program : Unit
-  -- the named file's bytes pass all stages, and are that program
-  pub is_read : IsRead (contents_of command.file files) program
-  -- the changes of the named script
+  -- the program of the named file, and the number of its entry function
+  pub program : Program
+  pub entry : ℕ
+  pub is_read : IsRead (entry_name command.main) (contents_of command.file files) program entry
+  -- the changes of the opening and of the named script, all of them allowed
   pub changes : List Change
-  -- the named script is within its limit, and its bytes make these changes, all of them allowed
-  pub within : length (contents_of command.script files) ≤ most_script
-  pub made : changes_of (props_of program) (contents_of command.script files) ≡ Some changes
+  pub made : Makes program (script_of files command.script) changes
   -- the bytes are the report that prints full recomputation over these changes
-  pub printed : out ≡ report_text (props_of program).rows (full_of (history_of changes) (props_of program)) false
-  -- where the counted entries of registered emitters are locally right, each verdict of it is true of the runs
-  pub true_of_runs : ExternalRight (runs_of program) (history_of changes) (counted_of (history_of changes)) → AllTrue (props_of program) (runs_of program) (history_of changes)
+  pub printed : out ≡ report_text (rows_of program)
+      (full_of (history_of command entry changes) (props_of program)) command.points
+  -- where the counted entries of registered emitters are locally right, each verdict of it is true of the
+  -- runs
+  pub true_of_runs : ExternalRight (runs_of program) (history_of command entry changes)
+      (counted_of (history_of command entry changes))
+      → AllTrue (props_of program) (runs_of program) (history_of command entry changes)
 
 -- What a call that ends well says of runs.
 pub record SaysAtDone (words : List (List ℕ)) (files : Files) (before after : List ℕ) : Type 0 where
@@ -50,23 +51,28 @@ abbrev pub Says : List (List ℕ) → Status → Files → List ℕ → List ℕ
 Says words S.Done files before after = SaysAtDone words files before after
 Says words status files before after = Prim.Unit {0}
 
--- Clause `outcome`: what a call ends with and what the sink holds then. A fault of the shelf or want of memory
--- leaves the sink as it was; at a fault of the sink a proper prefix of the report was appended; every other status
+-- Clause `outcome`: what a call ends with and what the sink holds then. A fault of the shelf or want of
+-- memory
+-- leaves the sink as it was; at a fault of the sink a proper prefix of the report was appended; every other
+-- status
 -- is that of the stages, with what they write.
 abbrev pub Outcome : List (List ℕ) → Status → Files → List ℕ → List ℕ → Type 0
 Outcome words S.ReadFault files before after = after ≡ before
 Outcome words S.Memory files before after = after ≡ before
 Outcome words S.WriteFault files before after =
-    (out : List ℕ) × Works words files S.Done out × ((n : ℕ) × (n < length out) × (after ≡ before ++ take n out))
-Outcome words status files before after = (out : List ℕ) × Works words files status out × (after ≡ before ++ out)
+    (out : List ℕ) × Works words files S.Done out
+    × ((n : ℕ) × (n < length out) × (after ≡ before ++ take n out))
+Outcome words status files before after = (out : List ℕ) × Works words files status out
+    × (after ≡ before ++ out)
 
--- Clause `complete`: words that are a command, a file that passes all its stages and a script of allowed changes,
--- within its limit, give Done with the whole report, or Memory.
+-- Clause `complete`: words that are a command, a file that passes all its stages and, if a script is named,
+-- one of
+-- allowed changes within its limit, give Done with the whole report, or Memory.
 abbrev pub Complete : List (List ℕ) → Status → Files → List ℕ → List ℕ → Type 0
 Complete words status files before after =
-    (c : Command) (u : Unit) (cs : List Change) → report_command words ≡ Some c → IsRead (contents_of c.file files) u
-    → length (contents_of c.script files) ≤ most_script → changes_of (props_of u) (contents_of c.script files) ≡ Some cs
-    → (status ≡ S.Memory) ⊎ ((status ≡ S.Done) × (after ≡ before ++ report_of (props_of u) cs))
+    (c : Command) (p : Program) (g : ℕ) (cs : List Change) → report_command words ≡ Some c
+    → IsRead (entry_name c.main) (contents_of c.file files) p g → Makes p (script_of files c.script) cs
+    → (status ≡ S.Memory) ⊎ ((status ≡ S.Done) × (after ≡ before ++ report_of c p g cs))
 
 -- Clause `unwritten`: only Done and WriteFault write.
 abbrev pub Unwritten : Option (List ℕ) → Option (List ℕ) → Status → Type 0

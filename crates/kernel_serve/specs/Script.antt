@@ -27,11 +27,12 @@ with_wanted t cs (Run a) = None
 abbrev pub with_line : Props → List Change → List ℕ → Option (List Change)
 with_line t cs line = option_and_then (with_wanted t cs) (request_of (registered cs) t.rows 0 line)
 
--- the changes so far and those of lines, in order; none where one of the lines isn't a script's or isn't allowed
+-- the changes so far and those of lines, in order; none where one of the lines isn't a script's or isn't
+-- allowed
 abbrev pub with_lines : Props → List Change → List (List ℕ) → Option (List Change)
 with_lines t cs [] = Some cs
 with_lines t cs (line ∷ lines) = option_and_then (λ now. with_lines t now lines) (with_line t cs line)
 
--- the changes of a script
-unfoldable pub changes_of : Props → List ℕ → Option (List Change)
-changes_of t bytes = with_lines t [] (lines_of bytes)
+-- changes and those of a script after them
+unfoldable pub changes_of : Props → List Change → List ℕ → Option (List Change)
+changes_of t before bytes = with_lines t before (lines_of bytes)

@@ -1,6 +1,7 @@
--- The work of a call, stage by stage: `Works`, what it ends with and writes where nothing outside fails and there is
+-- The work of a call, stage by stage: `Works`, what it ends with and writes where nothing outside fails and
+-- there is
 -- memory. Each stage ends the call or hands on to the next one (this project's own).
-use Rattle.std.specs.Prelude.{◌≡◌, ◌≢◌, ◌⊎◌, ◌+◌, ◌<◌, ◌≤◌, ℕ, Bool, true, false, ◌&&◌, ◌||◌, List, [], ◌∷◌, Option, None, Some, Err, Ok, length, is_some, bytes_eq, codes}
+use Rattle.std.specs.Prelude.{◌≡◌, ◌≢◌, ◌⊎◌, ◌+◌, ◌<◌, ◌≤◌, ℕ, Bool, ◌&&◌, List, [], ◌∷◌, ◌++◌, map, Option, None, Some, Err, Ok, length, is_some, bytes_eq, codes, if◌then◌else◌}
 use Rattle.acsl_bind.specs.Programs.{Binds}
 use Rattle.acsl_bind.specs.declared.fault.BindFault.{BindFault}
 use Rattle.acsl_bind.specs.declared.fault.BindFault.TheVariants as B
@@ -26,9 +27,6 @@ use Rattle.c_ir.specs.declared.tree.Fun.{Fun}
 use Rattle.c_types.specs.Programs.{Checks}
 use Rattle.c_types.specs.declared.fault.TypeFault.{TypeFault}
 use Rattle.c_types.specs.declared.fault.TypeFault.TheVariants as T
-use Rattle.c_front.specs.declared.tree.Unit.{Unit}
-use Rattle.c_front.specs.Program.{IsProgram}
-use Rattle.c_front.specs.Rows.{props_of}
 use Rattle.fc_outside.specs.Contents.{contents_of}
 use Rattle.prop_table.specs.Tables.{Tables}
 use Rattle.prop_table.specs.declared.fault.TableFault.TheVariants as Many
@@ -37,6 +35,10 @@ use Rattle.status_history.specs.declared.history.Change.{Change}
 use Rattle.status_history.specs.declared.history.History.{History}
 use Rattle.status_rules.specs.Verdicts.{full_of}
 use Rattle.kernel_serve.specs.declared.status.Input.TheVariants as Input
+use Rattle.prop_runs.specs.Numbers.{props_of}
+use Rattle.prop_table.specs.Rows.{rows_of}
+use Rattle.rte_alarms.specs.Entries.{decided_said, links_said}
+use Rattle.status_history.specs.declared.history.Change.TheVariants.{Emit}
 use Rattle.kernel_serve.specs.declared.status.FrontFault.TheVariants as Fault
 use Rattle.kernel_serve.specs.declared.status.Status.{Status}
 use Rattle.kernel_serve.specs.declared.status.Status.TheVariants as S
@@ -44,72 +46,76 @@ use Rattle.kernel_serve.specs.Script.{changes_of}
 use Rattle.kernel_serve.specs.Told.{Files}
 use Rattle.kernel_serve.specs.Words.{Command, report_command}
 
--- the history of these changes. At its opening the entry function is `main`, which is function 0
-abbrev pub history_of : List Change → History
-history_of cs = record { opening = record { values = opening_values 0 false }; changes = cs }
+-- the opening: what follows of the program alone is emitted, the links of calls and then the alarms that
+-- types decide
+unfoldable pub opening_of : Program → List Change
+opening_of p = map Emit (links_said p (rows_of p) 0 ++ decided_said p (rows_of p) 0)
 
--- the report on a table of properties and these changes
-unfoldable pub report_of : Props → List Change → List ℕ
-report_of t cs = report_text t.rows (full_of (history_of cs) t) false
+-- the history of these changes, where the entry function has this number
+abbrev pub history_of : Command → ℕ → List Change → History
+history_of c g cs = record { opening = record { values = opening_values g c.lib_entry }; changes = cs }
 
--- the bytes are no program
-abbrev pub NoTree : List ℕ → Type 0
-NoTree bytes = (u : Unit) → IsProgram bytes u → ⊥
+-- the report on a program after these changes
+unfoldable pub report_of : Command → Program → ℕ → List Change → List ℕ
+report_of c p g cs = report_text (rows_of p) (full_of (history_of c g cs) (props_of p)) c.points
 
 -- the call ends with this refusal, and nothing is written
 abbrev pub StopsBy : Status → Status → List ℕ → Type 0
 StopsBy refusal status out = (status ≡ refusal) × (out ≡ [])
 
 -- the report: all of it is written
-abbrev pub AtReport : Props → List Change → Status → List ℕ → Type 0
-AtReport t cs status out = (status ≡ S.Done) × (out ≡ report_of t cs)
+abbrev pub AtReport : Command → Program → ℕ → List Change → Status → List ℕ → Type 0
+AtReport c p g cs status out = (status ≡ S.Done) × (out ≡ report_of c p g cs)
 
--- the changes of the script: its lines make them, or it is refused
-abbrev pub AtChanges : Props → Option (List Change) → Status → List ℕ → Type 0
-AtChanges t None status out = StopsBy (S.Refused (Fault.Unbuilt Input.Script)) status out
-AtChanges t (Some cs) status out = AtReport t cs status out
+-- the changes of the script, after those of the opening: its lines make them, or it is refused
+abbrev pub AtChanges : Command → Program → ℕ → Option (List Change) → Status → List ℕ → Type 0
+AtChanges c p g None status out = StopsBy (S.Refused (Fault.Unbuilt Input.Script)) status out
+AtChanges c p g (Some cs) status out = AtReport c p g cs status out
 
--- the script: it is within its limit, or it is refused
-abbrev pub AtScript : Props → List ℕ → Status → List ℕ → Type 0
-AtScript t script status out =
+-- the bytes of the named script
+abbrev pub script_of : Files → Option (List ℕ) → Option (List ℕ)
+script_of files None = None
+script_of files (Some name) = Some (contents_of name files)
+
+-- the script, if one is named: it is within its limit, or it is refused
+abbrev pub AtScript : Command → Program → ℕ → Option (List ℕ) → Status → List ℕ → Type 0
+AtScript c p g None status out = AtReport c p g (opening_of p) status out
+AtScript c p g (Some script) status out =
     ((most_script < length script) × StopsBy (S.Limit (Limit.ScriptTooLong (most_script + 1))) status out)
-    ⊎ ((length script ≤ most_script) × AtChanges t (changes_of t script) status out)
+    ⊎ ((length script ≤ most_script)
+    × AtChanges c p g (changes_of (props_of p) (opening_of p) script) status out)
 
--- what comes after the file's own stages, for its program
+-- what comes after the file's own stages, for its program and the number of its entry function
 abbrev pub Next : Type 1
-Next = Unit → Status → List ℕ → Type 0
+Next = Program → ℕ → Status → List ℕ → Type 0
 
--- the small language: the file is a program of it, or it is refused
-abbrev pub AtSmall : List ℕ → Next → Status → List ℕ → Type 0
-AtSmall file next status out =
-    (NoTree file × StopsBy (S.Refused (Fault.Unbuilt Input.File)) status out)
-    ⊎ ((u : Unit) × IsProgram file u × next u status out)
+-- a function of this name with a body
+abbrev pub is_entry : List ℕ → Fun → Bool
+is_entry name f = is_some f.body && bytes_eq f.name name
 
--- a defined `main`
-abbrev pub is_main : Fun → Bool
-is_main f = is_some f.body && bytes_eq f.name (codes "main")
-
-abbrev pub has_main : List Fun → Bool
-has_main [] = false
-has_main (f ∷ fs) = is_main f || has_main fs
+-- its number, where the first of these functions has number n
+abbrev pub entry_from : List ℕ → ℕ → List Fun → Option ℕ
+entry_from name n [] = None
+entry_from name n (f ∷ fs) = if is_entry name f then Some n else entry_from name (n + 1) fs
 
 -- the table: the program has few enough properties, or it is refused
-abbrev pub AtTable : List ℕ → Program → Next → Status → List ℕ → Type 0
-AtTable file p next status out =
+abbrev pub AtTable : Program → ℕ → Next → Status → List ℕ → Type 0
+AtTable p g next status out =
     ((n : ℕ) × Tables p (Err (Many.TooManyProps n)) × StopsBy (S.Limit (Limit.TooManyProps n)) status out)
-    ⊎ ((t : Props) × Tables p (Ok t) × AtSmall file next status out)
+    ⊎ ((t : Props) × Tables p (Ok t) × next p g status out)
 
--- the entry function: the program defines `main`, or the file is refused
-abbrev pub AtMain : List ℕ → Program → Next → Status → List ℕ → Type 0
-AtMain file p next status out =
-    ((has_main p.fns ≡ false) × StopsBy (S.Refused (Fault.Types (T.Unknown (codes "main")))) status out)
-    ⊎ ((has_main p.fns ≡ true) × AtTable file p next status out)
+-- the entry function: the program defines it, or the file is refused
+abbrev pub AtEntry : List ℕ → Program → Next → Status → List ℕ → Type 0
+AtEntry name p next status out =
+    ((entry_from name 0 p.fns ≡ None) × StopsBy (S.Refused (Fault.Types (T.Unknown name))) status out)
+    ⊎ ((g : ℕ) × (entry_from name 0 p.fns ≡ Some g) × AtTable p g next status out)
 
 -- binding: the annotations are bound to the program, or one is in breach
 abbrev pub AtBind : List ℕ → Skeleton → List Annot → Next → Status → List ℕ → Type 0
-AtBind file s annots next status out =
-    ((f : BindFault) × Binds s annots (Err f) × (f ≢ B.Memory) × StopsBy (S.Refused (Fault.Bind f)) status out)
-    ⊎ ((p : Program) × Binds s annots (Ok p) × AtMain file p next status out)
+AtBind name s annots next status out =
+    ((f : BindFault) × Binds s annots (Err f) × (f ≢ B.Memory)
+    × StopsBy (S.Refused (Fault.Bind f)) status out)
+    ⊎ ((p : Program) × Binds s annots (Ok p) × AtEntry name p next status out)
 
 -- types: the text has a program, or a breach, a recursive function or too many cells
 abbrev pub type_refusal : TypeFault → Status
@@ -120,38 +126,50 @@ abbrev pub text_of : List Item → Text
 text_of items = record { items = items }
 
 abbrev pub AtTypes : List ℕ → List Item → List Annot → Next → Status → List ℕ → Type 0
-AtTypes file items annots next status out =
+AtTypes name items annots next status out =
     ((f : TypeFault) × Checks (text_of items) (Err f) × (f ≢ T.Memory) × StopsBy (type_refusal f) status out)
-    ⊎ ((s : Skeleton) × Checks (text_of items) (Ok s) × AtBind file s annots next status out)
+    ⊎ ((s : Skeleton) × Checks (text_of items) (Ok s) × AtBind name s annots next status out)
 
 -- the grammar of annotations: each note is one, or the reading of one stops
-abbrev pub AtNotes : List ℕ → List Token → List Item → Next → Status → List ℕ → Type 0
-AtNotes file tokens items next status out =
-    ((f : AcslFault) × IsFirstFault file (notes_of tokens) f × (f ≢ A.Memory) × StopsBy (S.Refused (Fault.Acsl f)) status out)
-    ⊎ ((annots : List Annot) × AreAnnots file annots (notes_of tokens) × AtTypes file items annots next status out)
+abbrev pub AtNotes : List ℕ → List ℕ → List Token → List Item → Next → Status → List ℕ → Type 0
+AtNotes name file tokens items next status out =
+    ((f : AcslFault) × IsFirstFault file (notes_of tokens) f × (f ≢ A.Memory)
+    × StopsBy (S.Refused (Fault.Acsl f)) status out)
+    ⊎ ((annots : List Annot) × AreAnnots file annots (notes_of tokens)
+    × AtTypes name items annots next status out)
 
 -- the grammar of C: the tokens are a text of C, or the reading stops
-abbrev pub AtParse : List ℕ → List Token → Next → Status → List ℕ → Type 0
-AtParse file tokens next status out =
-    ((f : ParseFault) × IsFault file tokens f × (f ≢ P.Memory) × StopsBy (S.Refused (Fault.Parse f)) status out)
-    ⊎ ((items : List Item) × IsUnit file items tokens × AtNotes file tokens items next status out)
+abbrev pub AtParse : List ℕ → List ℕ → List Token → Next → Status → List ℕ → Type 0
+AtParse name file tokens next status out =
+    ((f : ParseFault) × IsFault file tokens f × (f ≢ P.Memory)
+    × StopsBy (S.Refused (Fault.Parse f)) status out)
+    ⊎ ((items : List Item) × IsUnit file items tokens × AtNotes name file tokens items next status out)
 
 -- tokens: the file has tokens of C, or a first fault
-abbrev pub AtLex : List ℕ → Next → Status → List ℕ → Type 0
-AtLex file next status out =
+abbrev pub AtLex : List ℕ → List ℕ → Next → Status → List ℕ → Type 0
+AtLex name file next status out =
     ((f : LexFault) × Stuck file f × StopsBy (S.Refused (Fault.Lex f)) status out)
-    ⊎ ((tokens : List Token) × Lexes file tokens × AtParse file tokens next status out)
+    ⊎ ((tokens : List Token) × Lexes file tokens × AtParse name file tokens next status out)
 
 -- the file: it is within its limit, or it is refused
-abbrev pub AtLength : List ℕ → Next → Status → List ℕ → Type 0
-AtLength file next status out =
+abbrev pub AtLength : List ℕ → List ℕ → Next → Status → List ℕ → Type 0
+AtLength name file next status out =
     ((most_file < length file) × StopsBy (S.Limit (Limit.FileTooLong (most_file + 1))) status out)
-    ⊎ ((length file ≤ most_file) × AtLex file next status out)
+    ⊎ ((length file ≤ most_file) × AtLex name file next status out)
 
--- both files of a command
+-- the name of the entry function: `main`, if the command names no other
+abbrev pub entry_name : Option (List ℕ) → List ℕ
+entry_name None = codes "main"
+entry_name (Some name) = name
+
+-- what comes after the file, for its program and its entry function
+abbrev pub after_file : Files → Command → Next
+after_file files c p g status out = AtScript c p g (script_of files c.script) status out
+
+-- the files of a command
 abbrev pub AtFile : Files → Command → Status → List ℕ → Type 0
-AtFile files c status out =
-    AtLength (contents_of c.file files) (λ u. AtScript (props_of u) (contents_of c.script files)) status out
+AtFile files c status out = AtLength (entry_name c.main) (contents_of c.file files)
+    (after_file files c) status out
 
 -- the words: they are a command, or they are refused
 abbrev pub AtWords : Files → Option Command → Status → List ℕ → Type 0
@@ -167,20 +185,20 @@ pub record IsBound (items : List Item) (annots : List Annot) (p : Program) : Typ
   pub checks : Checks (text_of items) (Ok skeleton)
   pub binds : Binds skeleton annots (Ok p)
 
--- a program that defines `main`, with few enough properties
-pub record Enters (p : Program) : Type 0 where
-  pub main : has_main p.fns ≡ true
+-- a program with few enough properties, whose entry function of this name has this number
+pub record Enters (name : List ℕ) (p : Program) (g : ℕ) : Type 0 where
+  pub entry : entry_from name 0 p.fns ≡ Some g
   pub table : Props
   pub tables : Tables p (Ok table)
 
 -- a text and annotations that have such a program
-pub record IsTypedText (items : List Item) (annots : List Annot) : Type 0 where
-  pub program : Program
-  pub bound : IsBound items annots program
-  pub enters : Enters program
+pub record IsTypedText (name : List ℕ) (items : List Item) (annots : List Annot) (p : Program)
+    (g : ℕ) : Type 0 where
+  pub bound : IsBound items annots p
+  pub enters : Enters name p g
 
--- What is read: a file that passes all its stages, of this program.
-pub record IsRead (file : List ℕ) (u : Unit) : Type 0 where
+-- What is read: a file that passes all its stages, of this program, whose entry function has this number.
+pub record IsRead (name file : List ℕ) (p : Program) (g : ℕ) : Type 0 where
   pub within : length file ≤ most_file
   pub tokens : List Token
   pub lexes : Lexes file tokens
@@ -188,5 +206,10 @@ pub record IsRead (file : List ℕ) (u : Unit) : Type 0 where
   pub parses : IsUnit file items tokens
   pub annots : List Annot
   pub noted : AreAnnots file annots (notes_of tokens)
-  pub typed : IsTypedText items annots
-  pub is_program : IsProgram file u
+  pub typed : IsTypedText name items annots p g
+
+-- the changes of the opening and of the script, if one is named
+abbrev pub Makes : Program → Option (List ℕ) → List Change → Type 0
+Makes p None cs = cs ≡ opening_of p
+Makes p (Some script) cs = (length script ≤ most_script)
+    × (changes_of (props_of p) (opening_of p) script ≡ Some cs)

@@ -42,7 +42,8 @@ lex_text L.Memory = codes "out of memory\n"
 
 unfoldable pub parse_text : ParseFault → List ℕ
 parse_text (P.NotC at) = with_number (codes "refused: parse NotC ") at
-parse_text (P.Unsupported word at) = codes "refused: parse Unsupported " ++ (word ++ with_number (codes " ") at)
+parse_text (P.Unsupported word at) = codes "refused: parse Unsupported "
+    ++ (word ++ with_number (codes " ") at)
 parse_text (P.TooDeep at) = with_number (codes "refused: parse TooDeep ") at
 parse_text P.Memory = codes "out of memory\n"
 

@@ -1,2 +1,3 @@
 -- What the steps of a call find: no public contract cites it.
 pub mod Steps
+pub mod Taking

@@ -16,7 +16,6 @@ use c_ir::PropTable;
 use event_script::{Script, ScriptFault, Wanted};
 use fc_base::{EmitterId, Name, ParamSet, PropId};
 use param_book::{OWN_COUNT, is_external, own_named};
-use sqlite_items::Items;
 use status_history::{Change, Changes, Entry};
 use std::alloc::{AllocError, Global};
 use std::marker::Model;
@@ -54,12 +53,13 @@ impl Model for Accepted {
 }
 
 impl Accepted {
-    /// No changes.
-    pub(crate) fn new(alloc: Global) -> Accepted
-        ensures { result ≡ [] }
+    /// Changes that register no emitter.
+    pub(crate) fn new(alloc: Global, changes: Changes) -> Accepted
+        requires { registered changes ≡ [] }
+        ensures { result ≡ changes }
     {
         Accepted {
-            changes: Items::new(alloc),
+            changes,
             script: Script::new(alloc),
         }
     }

@@ -1,49 +1,56 @@
 //! Answering a call.
 
-ghost use Rattle.std.specs.Prelude.{◌≡◌, ◌≤◌, ◌↔◌, IfErr, IfOk, IfSome, None, map, string_bytes};
+ghost use Rattle.std.specs.Prelude.{◌≡◌, ◌≤◌, ◌↔◌, IfErr, IfOk, IfSome, None, length, map, string_bytes};
+ghost use Rattle.std.specs.Option.{option_map};
 ghost use Rattle.std.specs.Result.{IsErrOf};
 ghost use Rattle.fc_outside.specs.Causes.{Rose};
+ghost use Rattle.prop_runs.specs.Numbers.{props_of};
 ghost use Rattle.kernel_serve.specs.Asked.{AsksFiles, WasAsked};
-ghost use Rattle.kernel_serve.specs.Headline.{Complete, Outcome, Says, Unwritten};
-ghost use Rattle.kernel_serve.specs.Stages.{AtFile, history_of, report_of};
+ghost use Rattle.kernel_serve.specs.Headline.{Complete, Outcome, Says, TrueReport, Unwritten};
+ghost use Rattle.kernel_serve.specs.Stages.{AtFile, entry_name, history_of, opening_of, report_of};
 ghost use Rattle.kernel_serve.specs.Told.{WhereTold};
 ghost use Rattle.kernel_serve.specs.Words.{report_command};
-ghost use Rattle.kernel_serve.specs.inner.Steps.{IsStop, OnlyReport, StopsAtFile, command_of};
+ghost use Rattle.kernel_serve.specs.inner.Steps.{IsChangesAnswer, IsStop, OnlyReport, ReadsAtMost, StopsAtFile, ToldChanges, UnlessReadFault};
+ghost use Rattle.kernel_serve.specs.inner.Taking.{command_of};
 
-use crate::inputs::{changes_in, tree_of};
+use crate::front::Entered;
+use crate::inputs::{changes_in, entered_in};
+use crate::opening::opening_changes;
 use crate::status::Status;
 use crate::words::{Command, report_command};
-use c_first_runs::program_verdicts_are_true;
-use c_front::table;
-use c_ir::PropTable;
+use c_ir::{Program, PropTable};
 use fc_outside::{Shelf, Sink, WriteFault, write_all};
 use param_book::opening;
+use prop_runs::runs_keep_laws;
 use report_print::report;
+use rte_alarms::{decided_are_right, links_are_right};
 use status_history::{Changes, History};
-use status_rules::full;
+use status_rules::{full, verdicts_are_true};
 use std::alloc::{AllocError, Global};
 
-/// The number of the function `main`, the only one.
-const MAIN: u32 = 0;
-
-/// Answers the command that these words are, those after the program's name: `report FILE --script EVENTS`
-/// (this project's own). FILE may be empty, but is no option, which has two bytes or more and begins with
-/// `-`; EVENTS isn't empty and doesn't begin with `-`. Other words are Usage, and then nothing is read.
+/// Answers the command that these words are, those after the program's name: `report FILE`, and then, each if it is
+/// wanted and in this order, `--script EVENTS`, `--no-eva`, `--main NAME`, `--lib-entry` and `--points` (this project's
+/// own). FILE may be empty, but is no option, which has two bytes or more and begins with `-`; EVENTS and NAME aren't
+/// empty and don't begin with `-`, and NAME has at most 256 bytes. Other words are Usage, and then nothing is read.
+/// `--no-eva` has no effect so far.
 ///
 /// The file is read first. It is refused at the first of these stages that it doesn't pass: it has at most
-/// 4,194,304 bytes (Limit); it has tokens of C (`c_lex::tokens`); they are a text of C (`c_parse::parse`); the text
-/// has a typed program (`c_types::check`; Limit where it has too many cells), in which `main` is defined; it is a
-/// program of the small language that is built (`c_front::unit`). Else the script is read, and refused where it has
-/// more than 16,777,216 bytes (Limit), or where its lines aren't each blank or ask for a change that is allowed:
+/// 4,194,304 bytes (Limit); it has tokens of C (`c_lex::tokens`); they are a text of C (`c_parse::parse`); each note
+/// is an annotation (`acsl_notes::notes`); the text has a typed program (`c_types::check`; Limit where it has too many
+/// cells); its annotations are bound (`acsl_bind::bind`); it defines the function NAME, or `main`; and it has at most
+/// 65,536 properties (Limit). Then the links of its calls and the alarms that operand types decide are emitted
+/// (`rte_alarms`). Else the script, if one is named, is read, and refused where it has more than 16,777,216 bytes
+/// (Limit), or where its lines aren't each blank or ask for a change that is allowed:
 ///
 /// - `{"register":NAME,"correctness":[]}`, where no emitter has the name and there are fewer than 256;
 /// - `{"emit":EMITTER,"prop":NAME,"status":STATUS,"hyps":[NAME, ..]}`, where an earlier line registered the
 ///   emitter, the table has the properties and there are at most 256 hypotheses.
 ///
 /// (`event_script::Script::line` has the forms whole.) Else the report on the program's properties with the
-/// verdicts that these changes come to (`status_rules::full`) is written, and all of it at Done. ReadFault and
-/// WriteFault come only where the shelf or the sink had a fault, and Memory where there was no memory; at
-/// WriteFault a prefix of the report was written, and on every other status but Done nothing.
+/// verdicts that these changes come to (`status_rules::full`) is written, and all of it at Done; those of kind Dead are
+/// shown with `--points` alone. ReadFault and WriteFault come only where the shelf or the sink had a fault, and Memory
+/// where there was no memory; at WriteFault a prefix of the report was written, and on every other status but Done
+/// nothing.
 ///
 /// At Done, where the counted entries of the emitters that the script registered are locally right over the runs
 /// of the program (each status follows from its hypotheses; after Correnson and Signoles), each verdict is true
@@ -68,7 +75,6 @@ where
     ensures files { F.files shelf.new ≡ F.files shelf.old }
     ensures never_fails { F.never_fails shelf.new ≡ F.never_fails shelf.old }
 {
-    program_verdicts_are_true();
     let Some(command) = report_command(words) else {
         return Status::Usage;
     };
@@ -82,10 +88,12 @@ where
     }
 }
 
-/// Reads both files and makes the report.
+/// Reads the files and makes the report.
 fn prepared<F: Shelf>(alloc: Global, shelf: &mut F, command: Command) -> Result<Vec<u8>, Status>
 where
+    requires { IfSome command.main (λ name. length name.now ≤ 256) }
     ensures text { IfSome (F.files shelf.old) (λ files. IfOk result (λ text. AtFile files (command_of command.entry) Status.Done text.items)) }
+    ensures truth { IfSome (F.files shelf.old) (λ files. IfOk result (λ text. TrueReport (command_of command.entry) files text.items)) }
     ensures stops { IfSome (F.files shelf.old) (λ files. IfErr result (StopsAtFile files (command_of command.entry))) }
     ensures only { IfSome (F.files shelf.old) (λ files. OnlyReport files (command_of command.entry) result) }
     ensures ends { IfErr result IsStop }
@@ -95,39 +103,86 @@ where
     ensures files { F.files shelf.new ≡ F.files shelf.old }
     ensures never_fails { F.never_fails shelf.new ≡ F.never_fails shelf.old }
 {
-    let unit = match tree_of(alloc, shelf, command.file) {
-        Ok(unit) => unit,
+    runs_keep_laws();
+    verdicts_are_true();
+    links_are_right();
+    decided_are_right();
+    let entered = match entered_in(alloc, shelf, command.file, entry_name(command.main)) {
+        Ok(entered) => entered,
         Err(refusal) => return Err(refusal),
     };
-    let Ok(props) = table(alloc, &unit) else {
-        return Err(Status::Memory);
-    };
-    let changes = match changes_in(alloc, shelf, command.script, &props) {
+    entered.program.keeps();
+    let changes = match changes(alloc, shelf, command.script, &entered) {
         Ok(changes) => changes,
         Err(status) => return Err(status),
     };
-    match report_of(alloc, &props, changes) {
+    match report_of(alloc, command, &entered, changes) {
         Ok(text) => Ok(text),
         Err(AllocError) => Err(Status::Memory),
     }
 }
 
-/// The report on these properties and changes.
-#[tactic(auto, unfolding(crate::specs::Stages::report_of))]
-fn report_of(alloc: Global, props: &PropTable, changes: Changes) -> Result<Vec<u8>, AllocError>
-    ensures { IfOk result (λ text. text.items ≡ report_of props.now changes) }
+/// The name of the entry function.
+fn entry_name(main: Option<&str>) -> &str
+    requires { IfSome main (λ name. length name.now ≤ 256) }
+    ensures name { result.now ≡ entry_name (option_map (λ w. w.now) main.entry) }
+    ensures bound { length result.now ≤ 256 }
 {
-    let history = history_of(changes);
-    let verdicts = full(alloc, &history, props)?;
-    report(alloc, props, verdicts.as_slice(), false)
+    match main {
+        Some(name) => name,
+        None => "main",
+    }
 }
 
-/// The history of these changes.
-fn history_of(changes: Changes) -> History
-    ensures { result ≡ history_of changes }
+/// The changes of the opening and of the script, if one is named.
+fn changes<F: Shelf>(
+    alloc: Global,
+    shelf: &mut F,
+    script: Option<&str>,
+    entered: &Entered,
+) -> Result<Changes, Status>
+where
+    requires { entered.now.props ≡ props_of entered.now.program }
+    ensures told { ToldChanges (F.files shelf.old) (option_map (λ w. w.now) script.entry) entered.now.program result }
+    ensures stops { IfErr result IsStop }
+    ensures asked { ReadsAtMost (option_map (λ w. w.now) script.entry) (F.asked shelf.old) (F.asked shelf.new) }
+    ensures files { F.files shelf.new ≡ F.files shelf.old }
+    ensures never_fails { F.never_fails shelf.new ≡ F.never_fails shelf.old }
+    ensures later { F.faults shelf.old ≤ F.faults shelf.new }
+    ensures fault { IsErrOf result Status.ReadFault → Rose (F.faults shelf.old) (F.faults shelf.new) }
+{
+    let values = opening(0, false);
+    let Ok(first) = opening_changes(alloc, &entered.program, &entered.props, &values) else {
+        return Err(Status::Memory);
+    };
+    match script {
+        None => Ok(first),
+        Some(name) => changes_in(alloc, shelf, name, &entered.props, first),
+    }
+}
+
+/// The report on a program after these changes.
+#[tactic(auto, unfolding(crate::specs::Stages::report_of))]
+fn report_of(
+    alloc: Global,
+    command: Command,
+    entered: &Entered,
+    changes: Changes,
+) -> Result<Vec<u8>, AllocError>
+    requires { entered.now.props ≡ props_of entered.now.program }
+    ensures { IfOk result (λ text. text.items ≡ report_of (command_of command.entry) entered.now.program entered.now.entry changes) }
+{
+    let history = history_of(command, entered.entry, changes);
+    let verdicts = full(alloc, &history, &entered.props)?;
+    report(alloc, &entered.props, verdicts.as_slice(), command.points)
+}
+
+/// The history of these changes, where the entry function has this number.
+fn history_of(command: Command, entry: u32, changes: Changes) -> History
+    ensures { result ≡ history_of (command_of command.entry) entry changes }
 {
     History {
-        opening: opening(MAIN, false),
+        opening: opening(entry, command.lib_entry),
         changes,
     }
 }

@@ -1,19 +1,17 @@
 //! The stages of a file: its length, its tokens, the grammar of C, that of annotations, its types, its binding, its
-//! entry function, its properties, and the small language.
+//! entry function and its properties.
 
-ghost use Rattle.std.specs.Prelude.{◌≡◌, ◌≤◌, IfErr, IfOk, length};
-ghost use Rattle.c_front.specs.Rows.{rows_of};
+ghost use Rattle.std.specs.Prelude.{◌≡◌, ◌≤◌, ◌^◌, IfErr, IfOk, length};
 ghost use Rattle.c_ast.specs.Weight.{weight_of_unit};
-ghost use Rattle.kernel_serve.specs.Stages.{IsRead, has_main, is_main};
+ghost use Rattle.kernel_serve.specs.Stages.{entry_from, is_entry};
 ghost use Rattle.kernel_serve.specs.inner.Steps.{IsBoundAnswer, IsEntryAnswer, IsFileAnswer, IsTypesAnswer, acsl_status, bind_status, lex_status, parse_status, type_status};
 
-use crate::status::{FrontFault, Input, LimitFault, Status};
+use crate::status::{FrontFault, LimitFault, Status};
 use acsl_bind::{BindFault, bind};
 use acsl_notes::notes;
 use acsl_read::AcslFault;
 use c_ast::{Annot, Unit as Tree};
-use c_front::{Unit, UnitFault, one_tree, unit};
-use c_ir::{Fun, Program};
+use c_ir::{Fun, Program, PropTable};
 use c_lex::{LexFault, tokens};
 use c_parse::{ParseFault, parse};
 use c_types::{TypeFault, check, one_program};
@@ -24,12 +22,22 @@ use std::alloc::Global;
 /// The most bytes of a file.
 pub(crate) const MOST_FILE: usize = 4_194_304;
 
-/// The program of a file of C; refused at the first stage that it doesn't pass.
-pub(crate) fn unit_in(alloc: Global, bytes: &[u8]) -> Result<Unit, Status>
-    ensures answer { IsFileAnswer bytes.now result }
-    ensures fits { IfOk result (λ u. length (rows_of u) ≤ 65536) }
+/// The most functions whose numbers have 32 bits. No file within its limit has more.
+const MOST_FNS: usize = 4_294_967_296;
+
+/// A program with its properties, and the number of its entry function.
+#[derive(Drop)]
+pub(crate) struct Entered {
+    pub(crate) program: Program,
+    pub(crate) props: PropTable,
+    pub(crate) entry: u32,
+}
+
+/// The program of a file of C, whose entry function has this name; refused at the first stage that it doesn't pass.
+pub(crate) fn program_in(alloc: Global, bytes: &[u8], name: &str) -> Result<Entered, Status>
+    requires { length name.now ≤ 256 }
+    ensures { IsFileAnswer name.now bytes.now result }
 {
-    one_tree();
     if bytes.len() > MOST_FILE {
         return Err(Status::Limit(LimitFault::FileTooLong(4_194_305)));
     }
@@ -45,17 +53,7 @@ pub(crate) fn unit_in(alloc: Global, bytes: &[u8]) -> Result<Unit, Status>
         Ok(annots) => annots,
         Err(fault) => return Err(acsl_status(fault)),
     };
-    match typed(alloc, &tree, annots.as_slice()) {
-        Ok(()) => (),
-        Err(status) => return Err(status),
-    }
-    drop(annots);
-    drop(tree);
-    match unit(alloc, bytes) {
-        Ok(unit) => Ok(unit),
-        Err(UnitFault::Refused) => Err(Status::Refused(FrontFault::Unbuilt(Input::File))),
-        Err(UnitFault::Memory) => Err(Status::Memory),
-    }
+    typed(alloc, &tree, annots.as_slice(), name)
 }
 
 /// How a call ends where a file has no tokens.
@@ -133,23 +131,24 @@ fn type_status(fault: TypeFault) -> Status
     }
 }
 
-/// Whether this is a defined `main`.
-fn is_main(f: &Fun) -> bool
-    ensures { result ≡ is_main f.now }
+/// Whether this is a function of this name with a body.
+fn is_entry(name: &str, f: &Fun) -> bool
+    ensures { result ≡ is_entry name.now f.now }
 {
-    f.body.is_some() && f.name.as_str() == "main"
+    f.body.is_some() && f.name.as_str() == name
 }
 
-/// Whether one of these functions is a defined `main`.
-fn has_main(all: &[Fun]) -> bool
-    ensures { result ≡ has_main all.now }
+/// The number of the function of this name with a body.
+fn entry_of(name: &str, all: &[Fun]) -> Option<u32>
+    requires { length all.now ≤ 2 ^ 32 }
+    ensures { result ≡ entry_from name.now 0 all.now }
 {
-    for f in all {
-        if is_main(f) {
-            return true;
+    for number in 0..all.len() {
+        if is_entry(name, &all[number]) {
+            return Some(number as u32);
         }
     }
-    false
+    None
 }
 
 /// The program of a text and its annotations; refused where there is none.
@@ -169,19 +168,29 @@ fn bound(alloc: Global, tree: &Tree, annots: &[Annot]) -> Result<Program, Status
     }
 }
 
-/// Whether a program defines `main` and has few enough properties; refused where it doesn't.
-#[tactic(auto, using(crate::proofs::Fronted::too_many, crate::proofs::Fronted::few))]
-fn entered(alloc: Global, program: &Program) -> Result<(), Status>
-    ensures { IsEntryAnswer program.now result }
+/// A program with its properties and the number of the function of this name; refused where it doesn't define that
+/// function, or has too many properties.
+#[tactic(auto, using(crate::proofs::Fronted::too_many, crate::proofs::Fronted::few, crate::proofs::Fronted::no_room))]
+fn enter(alloc: Global, program: Program, name: &str) -> Result<Entered, Status>
+    requires { length name.now ≤ 256 }
+    ensures { IsEntryAnswer name.now program result }
 {
-    if !has_main(program.fns.as_slice()) {
-        return match Name::new(alloc, "main") {
+    let fns = program.fns.as_slice();
+    if fns.len() > MOST_FNS {
+        return Err(Status::Memory);
+    }
+    let Some(entry) = entry_of(name, fns) else {
+        return match Name::new(alloc, name) {
             Ok(name) => Err(Status::Refused(FrontFault::Types(TypeFault::Unknown(name)))),
             Err(_) => Err(Status::Memory),
         };
-    }
-    match table(alloc, program) {
-        Ok(_) => Ok(()),
+    };
+    match table(alloc, &program) {
+        Ok(props) => Ok(Entered {
+            program,
+            props,
+            entry,
+        }),
         Err(TableFault::TooManyProps(count)) => {
             Err(Status::Limit(LimitFault::TooManyProps(count)))
         }
@@ -189,14 +198,15 @@ fn entered(alloc: Global, program: &Program) -> Result<(), Status>
     }
 }
 
-/// Whether a text and its annotations have such a program; refused where they don't.
+/// What a text and its annotations come to; refused where they have no such program.
 #[tactic(auto, using(crate::proofs::Fronted::entry_found, crate::proofs::Fronted::not_bound))]
-fn typed(alloc: Global, tree: &Tree, annots: &[Annot]) -> Result<(), Status>
-    requires { weight_of_unit tree.now ≤ 4194304 }
-    ensures { IsTypesAnswer tree.now.items annots.now result }
+fn typed(alloc: Global, tree: &Tree, annots: &[Annot], name: &str) -> Result<Entered, Status>
+    requires size { weight_of_unit tree.now ≤ 4194304 }
+    requires name { length name.now ≤ 256 }
+    ensures { IsTypesAnswer name.now tree.now.items annots.now result }
 {
     match bound(alloc, tree, annots) {
-        Ok(program) => entered(alloc, &program),
+        Ok(program) => enter(alloc, program, name),
         Err(status) => Err(status),
     }
 }

@@ -6,11 +6,9 @@ mod batch;
 mod front;
 mod inputs;
 mod lines;
+mod opening;
 mod status;
 mod words;
 
 pub use batch::report_run;
 pub use status::{FrontFault, Input, LimitFault, Status, fault_line};
-
-#[cfg(test)]
-mod tests;

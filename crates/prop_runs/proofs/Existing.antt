@@ -25,7 +25,7 @@ use Rattle.prop_runs.specs.Numbers.{is_call_requires, call_requires_at}
 use Rattle.prop_runs.proofs.Callees.{callee}
 use Rattle.prop_runs.proofs.Finding.{passing, passing_append, passing_all, within_some}
 use Rattle.prop_runs.proofs.Placing.{evaluated}
-use Rattle.prop_runs.proofs.Standing.{Noted}
+use Rattle.by_key.specs.declared.lists.Keyed.{Keyed}
 use Rattle.prop_runs.proofs.Points.{claim_row}
 use Rattle.prop_runs.proofs.Telling.{pointed}
 use Rattle.prop_runs.proofs.Claimed.{Exists, numbers_first, numbers_later}
@@ -123,23 +123,23 @@ requires_claimed p q info =
     let long = length-append (passing requires_claim clauses) (passing requires_claim (sites ++ calls)) in
     omega (arith, both, long, last_pass sites calls (calls_pass p info.line (calls_at p q)))
 
-call_noted : (q g : ℕ) (ms : List Noted) → Has ms (record { point = q; number = g }) → Has (numbers_at q ms) g
+call_noted : (q g : ℕ) (ms : List Keyed) → Has ms (record { key = q; number = g }) → Has (numbers_at q ms) g
 call_noted q g [] h = absurd h
 call_noted q g (m ∷ ms) (inl is) =
-    let point : m.point ≡ q = ap (λ (x : Noted). x.point) is in
-    let number : m.number ≡ g = ap (λ (x : Noted). x.number) is in
+    let point : m.key ≡ q = ap (λ (x : Keyed). x.key) is in
+    let number : m.number ≡ g = ap (λ (x : Keyed). x.number) is in
     subst (λ (n : ℕ). Has (numbers_at q (m ∷ ms)) n) number
-    (numbers_first (m.point == q) m.number (numbers_at q ms) (eq-eqb m.point q point))
+    (numbers_first (m.key == q) m.number (numbers_at q ms) (eq-eqb m.key q point))
 call_noted q g (m ∷ ms) (inr h) =
-    numbers_later (m.point == q) m.number g (numbers_at q ms) (call_noted q g ms h)
+    numbers_later (m.key == q) m.number g (numbers_at q ms) (call_noted q g ms h)
 
-call_at : (p : Program) (q g : ℕ) → Has (noted_calls p.fns) (record { point = q; number = g })
+call_at : (p : Program) (q g : ℕ) → Has (noted_calls p.fns) (record { key = q; number = g })
     → Has (calls_at p q) g
 unfolding calls_at
 call_at p q g h = call_noted q g (noted_calls p.fns) h
 
 -- the function that a statement calls is one of its point's
-entered : (w : World) (q : ℕ) (vs : List Visit) → Keeps w.program → (h : Enters w q vs)
+pub entered : (w : World) (q : ℕ) (vs : List Visit) → Keeps w.program → (h : Enters w q vs)
     → Has (calls_at w.program q) h.call.function
 entered w q vs keeps h =
     let p = w.program in

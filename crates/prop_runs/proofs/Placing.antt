@@ -1,6 +1,7 @@
 -- Each expression of a program fits where it stands, and its calls are noted at its point.
 use Rattle.std.proofs.Common.{◌≡◌, ◌∙◌, ℕ, ◌+◌, Bool, true, false, List, [], ◌∷◌, ◌++◌, map, Option, Some, None, slice_get, refl, ap, sym, subst}
 use Rattle.std.proofs.lemmas.Bool.{and_parts}
+use Rattle.by_key.specs.declared.lists.Keyed.{Keyed}
 use Rattle.fc_base.specs.declared.ids.PointId.{PointId}
 use Rattle.c_ir.specs.Bodies.{Frame, expr_fits, all_fit, fits, fits_step, stmts_fit}
 use Rattle.c_ir.specs.Calls.{calls_of, calls_if}
@@ -23,27 +24,27 @@ use Rattle.prop_table.specs.Points.{at_point as noted_at, all_noted, noted_step,
 use Rattle.prop_table.proofs.Lists.{Each, each_append, each_more, From, from_all, from_here, from_next}
 use Rattle.prop_runs.proofs.Sites.{own_checks}
 use Rattle.prop_runs.proofs.Operators.{OwnCheck}
-use Rattle.prop_runs.proofs.Standing.{Noted, each_has, Within, left, right, Stands, expr_at, one, one_if, declared, returned}
+use Rattle.prop_runs.proofs.Standing.{each_has, Within, left, right, Stands, expr_at, one, one_if, declared, returned}
 
 -- ---- statements
 
-abbrev Claim : Frame → List Noted → Stmt → Type 0
+abbrev Claim : Frame → List Keyed → Stmt → Type 0
 Claim f all x =
     (in_loop : Bool) → fits f x in_loop ≡ true → Within (noted_in x) all → Each (Stands f all) (placed_in x)
 
-abbrev With : Frame → List Noted → Type 0
+abbrev With : Frame → List Keyed → Type 0
 With f all = (x : Stmt) × Claim f all x
 
-abbrev trees : (f : Frame) (all : List Noted) → List (With f all) → List Stmt
+abbrev trees : (f : Frame) (all : List Keyed) → List (With f all) → List Stmt
 trees f all ys = map (λ (y : With f all). y.0) ys
 
-abbrev places : (f : Frame) (all : List Noted) → List (With f all) → List Placed
+abbrev places : (f : Frame) (all : List Keyed) → List (With f all) → List Placed
 places f all ys = all_placed (map placed_in (trees f all ys))
 
-abbrev notes : (f : Frame) (all : List Noted) → List (With f all) → List Noted
+abbrev notes : (f : Frame) (all : List Keyed) → List (With f all) → List Keyed
 notes f all ys = all_noted (map noted_in (trees f all ys))
 
-subs : (f : Frame) (all : List Noted) (in_loop : Bool) (ys : List (With f all))
+subs : (f : Frame) (all : List Keyed) (in_loop : Bool) (ys : List (With f all))
     → all_fit (map (fits f) (trees f all ys)) in_loop ≡ true → Within (notes f all ys) all
     → Each (Stands f all) (places f all ys)
 subs f all in_loop [] is within = tt
@@ -53,20 +54,20 @@ subs f all in_loop (y ∷ ys) is within =
     (y.1 in_loop parts.0 (left (noted_in y.0) (notes f all ys) all within))
     (subs f all in_loop ys parts.1 (right (noted_in y.0) (notes f all ys) all within))
 
-abbrev stmts_in : (f : Frame) (all : List Noted) → Stmt-F (With f all) → Stmt-F Stmt
+abbrev stmts_in : (f : Frame) (all : List Keyed) → Stmt-F (With f all) → Stmt-F Stmt
 stmts_in f all y = map-Stmt (With f all) Stmt (λ y. y.0) y
 
-abbrev Top : Frame → List Noted → Stmt-F Stmt → Type 0
+abbrev Top : Frame → List Keyed → Stmt-F Stmt → Type 0
 Top f all x =
     (in_loop : Bool) → fits_step f (map-Stmt Stmt (Bool → Bool) (fits f) x) in_loop ≡ true
-    → Within (noted_step (map-Stmt Stmt (List Noted) noted_in x)) all
+    → Within (noted_step (map-Stmt Stmt (List Keyed) noted_in x)) all
     → Each (Stands f all) (placed_step (map-Stmt Stmt (List Placed) placed_in x))
 
-head_and : (f : Frame) (all : List Noted) (x : Placed) (xs : List Placed) → Stands f all x
+head_and : (f : Frame) (all : List Keyed) (x : Placed) (xs : List Placed) → Stands f all x
     → Each (Stands f all) xs → Each (Stands f all) (x ∷ [] ++ xs)
 head_and f all x xs h more = (h, more)
 
-layer : (f : Frame) (all : List Noted) (y : Stmt-F (With f all)) → Top f all (stmts_in f all y)
+layer : (f : Frame) (all : List Keyed) (y : Stmt-F (With f all)) → Top f all (stmts_in f all y)
 layer f all (Stmt-F.Declare p first n value) in_loop is within =
     declared f all p first n value (and_parts _ _ is).1 within
 layer f all (Stmt-F.Expression p e) in_loop is within =
@@ -114,18 +115,18 @@ layer f all (Stmt-F.Block ss) in_loop is within = subs f all in_loop ss is withi
 layer f all (Stmt-F.Note at) in_loop is within = tt
 layer f all (Stmt-F.Clause p) in_loop is within = tt
 
-rolled : (f : Frame) (all : List Noted) (x : Stmt-F Stmt) → Top f all x → Claim f all (roll-Stmt x)
+rolled : (f : Frame) (all : List Keyed) (x : Stmt-F Stmt) → Top f all x → Claim f all (roll-Stmt x)
 rolled f all x h in_loop is within =
     let fit = ap (λ (g : Bool → Bool). g in_loop) (sym (fold-roll-Stmt (Bool → Bool) (fits_step f) x)) ∙ is in
-    let noted = subst (λ (xs : List Noted). Within xs all)
-    (fold-roll-Stmt (List Noted) noted_step x) within in
+    let noted = subst (λ (xs : List Keyed). Within xs all)
+    (fold-roll-Stmt (List Keyed) noted_step x) within in
     subst (λ (xs : List Placed). Each (Stands f all) xs) (sym (fold-roll-Stmt (List Placed) placed_step x))
     (h in_loop fit noted)
 
-stmt_stands : (f : Frame) (all : List Noted) (x : Stmt) → Claim f all x
+stmt_stands : (f : Frame) (all : List Keyed) (x : Stmt) → Claim f all x
 stmt_stands f all = ind-Stmt (Claim f all) (λ x y is. rolled f all x (subst (Top f all) is (layer f all y)))
 
-stmts_stand : (f : Frame) (all : List Noted) (ss : List Stmt) → all_fit (map (fits f) ss) false ≡ true
+stmts_stand : (f : Frame) (all : List Keyed) (ss : List Stmt) → all_fit (map (fits f) ss) false ≡ true
     → Within (noted_in_all ss) all → Each (Stands f all) (placed_in_all ss)
 stmts_stand f all [] is within = tt
 stmts_stand f all (x ∷ ss) is within =
@@ -134,7 +135,7 @@ stmts_stand f all (x ∷ ss) is within =
     (stmt_stands f all x false parts.0 (left (noted_in x) (noted_in_all ss) all within))
     (stmts_stand f all ss parts.1 (right (noted_in x) (noted_in_all ss) all within))
 
-body_stands : (f : Frame) (all : List Noted) (ss : List Stmt) → stmts_fit f false ss ≡ true
+body_stands : (f : Frame) (all : List Keyed) (ss : List Stmt) → stmts_fit f false ss ≡ true
     → Within (noted_in_all ss) all → Each (Stands f all) (placed_in_all ss)
 unfolding stmts_fit
 body_stands f all ss is within = stmts_stand f all ss is within

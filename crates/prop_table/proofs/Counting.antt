@@ -4,15 +4,15 @@ use Rattle.std.specs.Prelude.{Some, None, Option, slice_get}
 use Rattle.c_ir.specs.Programs.{Program}
 use Rattle.c_ir.specs.declared.tree.Fun.{Fun}
 use Rattle.prop_table.specs.Points.{numbers_at, noted_sites, noted_calls, sites_at, calls_at, requires_if, requires_at}
-use Rattle.prop_table.specs.declared.by_point.Noted.{Noted}
+use Rattle.by_key.specs.declared.lists.Keyed.{Keyed}
 use Rattle.prop_table.specs.declared.index.Index.{Index}
 use Rattle.prop_table.specs.inner.Counts.{capped, point_count, points_count, fn_count, requires_counts}
 use Rattle.prop_table.specs.inner.Index.{IsIndex}
-use Rattle.prop_table.specs.inner.Sorting.{Sorts}
+use Rattle.by_key.specs.Keys.{Groups}
 
 -- ---- the index
 
-pub is_index : (p : Program) (i : Index) (n : ℕ) (ss cs : List Noted) → n ≡ length p.points → ss ≡ noted_sites 0 p.sites → cs ≡ noted_calls p.fns → Sorts i.sites n ss → Sorts i.calls n cs → i.preconditions ≡ requires_counts p p.fns → IsIndex p i
+pub is_index : (p : Program) (i : Index) (n : ℕ) (ss cs : List Keyed) → n ≡ length p.points → ss ≡ noted_sites 0 p.sites → cs ≡ noted_calls p.fns → Groups i.sites n ss → Groups i.calls n cs → i.preconditions ≡ requires_counts p p.fns → IsIndex p i
 unfolding sites_at calls_at
 is_index p i n ss cs e a b s c r = record {
   sites = λ q h. s.at q (rw e h) ∙ ap (numbers_at q) a;

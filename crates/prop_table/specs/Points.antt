@@ -1,6 +1,8 @@
 -- What belongs to a point of a program: the operators that are evaluated there, the functions that its statement
 -- calls, and the preconditions of a function (this project's own).
 use Rattle.std.specs.Prelude.{◌==◌, ◌+◌, ◌++◌, ◌∷◌, [], ℕ, Bool, true, false, List, Option, Some, None, map, slice_get, if◌then◌else◌}
+pub use Rattle.by_key.specs.Keys.{numbers_at}
+use Rattle.by_key.specs.declared.lists.Keyed.{Keyed}
 use Rattle.fc_base.specs.declared.ids.PointId.{PointId}
 use Rattle.c_ir.specs.declared.kind.Kind.{Kind}
 use Rattle.c_ir.specs.declared.kind.Kind.TheVariants as K
@@ -12,26 +14,20 @@ use Rattle.c_ir.specs.declared.tree.Stmt.{Stmt, fold-Stmt}
 use Rattle.c_ir.specs.declared.tree.Stmt.TheOpen.{Stmt-F}
 use Rattle.c_ir.specs.Calls.{calls_of, calls_if, calls_of_init}
 use Rattle.c_ir.specs.Programs.{Program}
-use Rattle.prop_table.specs.declared.by_point.Noted.{Noted}
 
 -- ---- numbers at points
 
--- those of the numbers that stand at this point, in order
-abbrev pub numbers_at : ℕ → List Noted → List ℕ
-numbers_at q [] = []
-numbers_at q (m ∷ ms) = if m.point == q then m.number ∷ numbers_at q ms else numbers_at q ms
-
 -- these numbers, each at this point
-abbrev pub at_point : PointId → List ℕ → List Noted
+abbrev pub at_point : PointId → List ℕ → List Keyed
 at_point p [] = []
-at_point p (n ∷ ns) = record { point = p.0; number = n } ∷ at_point p ns
+at_point p (n ∷ ns) = record { key = p.0; number = n } ∷ at_point p ns
 
 -- ---- operators
 
 -- each operator's number at its point, where the first one has number `n`
-abbrev pub noted_sites : ℕ → List SiteInfo → List Noted
+abbrev pub noted_sites : ℕ → List SiteInfo → List Keyed
 noted_sites n [] = []
-noted_sites n (s ∷ ss) = record { point = s.point.0; number = n } ∷ noted_sites (n + 1) ss
+noted_sites n (s ∷ ss) = record { key = s.point.0; number = n } ∷ noted_sites (n + 1) ss
 
 -- the numbers of the operators that are evaluated at this point
 unfoldable pub sites_at : Program → ℕ → List ℕ
@@ -39,13 +35,13 @@ sites_at p q = numbers_at q (noted_sites 0 p.sites)
 
 -- ---- calls
 
-abbrev pub all_noted : List (List Noted) → List Noted
+abbrev pub all_noted : List (List Keyed) → List Keyed
 all_noted [] = []
 all_noted (x ∷ xs) = x ++ all_noted xs
 
 -- the functions that a statement calls itself, at its point and in order of evaluation; what an `if` or a loop governs
 -- is statements of their own (C11 6.8)
-abbrev pub noted_step : Stmt-F (List Noted) → List Noted
+abbrev pub noted_step : Stmt-F (List Keyed) → List Keyed
 noted_step (Stmt-F.Declare p f n value) = at_point p (calls_of_init value)
 noted_step (Stmt-F.Expression p e) = at_point p (calls_of e)
 noted_step (Stmt-F.If p c ys ns) = at_point p (calls_of c) ++ (all_noted ys ++ all_noted ns)
@@ -60,18 +56,18 @@ noted_step (Stmt-F.Block ss) = all_noted ss
 noted_step (Stmt-F.Note at) = []
 noted_step (Stmt-F.Clause p) = []
 
-abbrev pub noted_in : Stmt → List Noted
-noted_in = fold-Stmt (List Noted) noted_step
+abbrev pub noted_in : Stmt → List Keyed
+noted_in = fold-Stmt (List Keyed) noted_step
 
-abbrev pub noted_in_all : List Stmt → List Noted
+abbrev pub noted_in_all : List Stmt → List Keyed
 noted_in_all ss = all_noted (map noted_in ss)
 
-abbrev pub noted_in_body : Option (List Stmt) → List Noted
+abbrev pub noted_in_body : Option (List Stmt) → List Keyed
 noted_in_body None = []
 noted_in_body (Some ss) = noted_in_all ss
 
 -- the calls of all functions
-abbrev pub noted_calls : List Fun → List Noted
+abbrev pub noted_calls : List Fun → List Keyed
 noted_calls [] = []
 noted_calls (f ∷ fs) = noted_in_body f.body ++ noted_calls fs
 

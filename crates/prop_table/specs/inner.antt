@@ -2,4 +2,3 @@ pub mod Counts
 pub mod Fitting
 pub mod Index
 pub mod Numbered
-pub mod Sorting

@@ -4,14 +4,15 @@ ghost use Rattle.std.specs.Prelude.{◌≡◌, ◌++◌, List, IfOk};
 ghost use Rattle.c_ir.specs.Calls.{calls_of, calls_of_all, calls_if, calls_of_init};
 ghost use Rattle.prop_table.specs.Points.{at_point, noted_in, noted_in_all, noted_calls};
 
-use crate::by_point::Noted;
+use by_key::Keyed;
 use c_ir::{Expr, Fun, Init, Node, Stmt};
 use fc_base::PointId;
 use sqlite_items::Items;
 use std::alloc::{AllocError, Global};
 
-/// The calls of all functions, each at the point of its statement.
-pub(crate) fn calls_in(alloc: Global, fns: &[Fun]) -> Result<Items<Noted>, AllocError>
+/// The functions that are called, by their numbers and in order of evaluation, each with the point of the calling
+/// statement as its key.
+pub fn calls_in(alloc: Global, fns: &[Fun]) -> Result<Items<Keyed>, AllocError>
     ensures { IfOk result (λ ms. ms ≡ noted_calls fns.now) }
 {
     let mut found = Items::new(alloc);
@@ -24,7 +25,7 @@ pub(crate) fn calls_in(alloc: Global, fns: &[Fun]) -> Result<Items<Noted>, Alloc
 }
 
 #[cycle(stmts)]
-fn note_stmts(alloc: Global, found: &mut Items<Noted>, all: &[Stmt]) -> Result<(), AllocError>
+fn note_stmts(alloc: Global, found: &mut Items<Keyed>, all: &[Stmt]) -> Result<(), AllocError>
     ensures { IfOk result (λ _. found.new ≡ found.old ++ noted_in_all all.now) }
 {
     for s in all {
@@ -34,7 +35,7 @@ fn note_stmts(alloc: Global, found: &mut Items<Noted>, all: &[Stmt]) -> Result<(
 }
 
 #[cycle(stmts)]
-fn note_stmt(alloc: Global, found: &mut Items<Noted>, s: &Stmt) -> Result<(), AllocError>
+fn note_stmt(alloc: Global, found: &mut Items<Keyed>, s: &Stmt) -> Result<(), AllocError>
     ensures { IfOk result (λ _. found.new ≡ found.old ++ noted_in s.now) }
 {
     match s {
@@ -81,7 +82,7 @@ fn note_stmt(alloc: Global, found: &mut Items<Noted>, s: &Stmt) -> Result<(), Al
 }
 
 /// The calls of an expression that is evaluated at a point.
-fn note(alloc: Global, found: &mut Items<Noted>, point: PointId, e: &Expr) -> Result<(), AllocError>
+fn note(alloc: Global, found: &mut Items<Keyed>, point: PointId, e: &Expr) -> Result<(), AllocError>
     ensures { IfOk result (λ _. found.new ≡ found.old ++ at_point point (calls_of e.now)) }
 {
     let mut callees = Items::new(alloc);
@@ -91,7 +92,7 @@ fn note(alloc: Global, found: &mut Items<Noted>, point: PointId, e: &Expr) -> Re
 
 fn note_if(
     alloc: Global,
-    found: &mut Items<Noted>,
+    found: &mut Items<Keyed>,
     point: PointId,
     e: &Option<Expr>,
 ) -> Result<(), AllocError>
@@ -105,7 +106,7 @@ fn note_if(
 
 fn note_init(
     alloc: Global,
-    found: &mut Items<Noted>,
+    found: &mut Items<Keyed>,
     point: PointId,
     value: &Init,
 ) -> Result<(), AllocError>
@@ -117,12 +118,12 @@ fn note_init(
 }
 
 /// These numbers, each at this point.
-fn note_all(found: &mut Items<Noted>, point: PointId, numbers: &[u32]) -> Result<(), AllocError>
+fn note_all(found: &mut Items<Keyed>, point: PointId, numbers: &[u32]) -> Result<(), AllocError>
     ensures { IfOk result (λ _. found.new ≡ found.old ++ at_point point numbers.now) }
 {
     for number in numbers {
-        found.push(Noted {
-            point: point.0,
+        found.push(Keyed {
+            key: point.0,
             number: *number,
         })?;
     }

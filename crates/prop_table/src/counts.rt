@@ -59,8 +59,8 @@ fn add_info(program: &Program, index: &Index, total: u64, point: PointId, info: 
 {
     let total = total.saturating_add(1);
     let total = total.saturating_add(info.clauses.len() as u64);
-    let total = add_alarms(program, total, index.sites.at(point));
-    add_calls(program, index, total, index.calls.at(point))
+    let total = add_alarms(program, total, index.sites.at(point.0));
+    add_calls(program, index, total, index.calls.at(point.0))
 }
 
 #[tactic(auto, unfolding(crate::specs::inner::Counts::point_count))]

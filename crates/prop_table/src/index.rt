@@ -3,10 +3,10 @@
 ghost use Rattle.std.specs.Prelude.{◌≡◌, ◌≤◌, ◌^◌, IfOk, length, get_or};
 ghost use Rattle.prop_table.specs.Points.{noted_sites, requires_at};
 
-use crate::by_point::{ByPoint, Noted};
 use crate::calls::calls_in;
 use crate::operators::see_fns;
 use crate::preconditions::counts;
+use by_key::{ByKey, Keyed};
 use c_ir::{Program, SiteInfo};
 use sqlite_items::Items;
 use std::alloc::{AllocError, Global};
@@ -14,8 +14,8 @@ use std::alloc::{AllocError, Global};
 /// The operators and the callees at each point, and how many preconditions each function has.
 #[derive(Drop)]
 pub(crate) struct Index {
-    pub(crate) sites: ByPoint,
-    pub(crate) calls: ByPoint,
+    pub(crate) sites: ByKey,
+    pub(crate) calls: ByKey,
     preconditions: Items<usize>,
 }
 
@@ -29,8 +29,8 @@ impl Index {
         let points = program.points.len();
         let operators = sites_in(alloc, program)?;
         let callees = calls_in(alloc, program.fns.as_slice())?;
-        let sites = ByPoint::new(alloc, points, operators.as_slice())?;
-        let calls = ByPoint::new(alloc, points, callees.as_slice())?;
+        let sites = ByKey::new(alloc, points, operators.as_slice())?;
+        let calls = ByKey::new(alloc, points, callees.as_slice())?;
         let preconditions = counts(alloc, program)?;
         Ok(Index {
             sites,
@@ -51,8 +51,8 @@ impl Index {
     }
 }
 
-/// The operators of a program, each at its point.
-fn sites_in(alloc: Global, program: &Program) -> Result<Items<Noted>, AllocError>
+/// The operators of a program by their numbers, each with its point as the key.
+pub fn sites_in(alloc: Global, program: &Program) -> Result<Items<Keyed>, AllocError>
     ensures { IfOk result (λ ms. ms ≡ noted_sites 0 program.now.sites) }
 {
     program.keeps();
@@ -62,14 +62,14 @@ fn sites_in(alloc: Global, program: &Program) -> Result<Items<Noted>, AllocError
     number_sites(alloc, sites)
 }
 
-fn number_sites(alloc: Global, sites: &[SiteInfo]) -> Result<Items<Noted>, AllocError>
+fn number_sites(alloc: Global, sites: &[SiteInfo]) -> Result<Items<Keyed>, AllocError>
     requires { length sites.now ≤ 2 ^ 32 }
     ensures { IfOk result (λ ms. ms ≡ noted_sites 0 sites.now) }
 {
     let mut noted = Items::new(alloc);
     for number in 0..sites.len() {
-        noted.push(Noted {
-            point: sites[number].point.0,
+        noted.push(Keyed {
+            key: sites[number].point.0,
             number: number as u32,
         })?;
     }

@@ -1,7 +1,6 @@
 //! The table of all properties of a typed program.
 #![tactic(auto)]
 
-mod by_point;
 mod calls;
 mod counts;
 mod fault;
@@ -13,6 +12,8 @@ mod rows;
 mod state;
 mod whole;
 
+pub use calls::calls_in;
 pub use fault::TableFault;
+pub use index::sites_in;
 pub use laws::{one_dead, rows_belong, rows_together};
 pub use whole::table;

@@ -242,8 +242,8 @@ impl Rows {
         self.begin();
         self.push(alloc, at, claim, "")?;
         self.push_clauses(alloc, at, info.clauses.as_slice())?;
-        self.push_sites(alloc, at, program, index.sites.at(at.point))?;
-        self.push_calls(alloc, at, program, index, index.calls.at(at.point))
+        self.push_sites(alloc, at, program, index.sites.at(at.point.0))?;
+        self.push_calls(alloc, at, program, index, index.calls.at(at.point.0))
     }
 
     #[tactic(auto, unfolding(crate::specs::inner::Counts::point_count))]

@@ -6,6 +6,6 @@ use Rattle.prop_table.specs.inner.Counts.{requires_counts}
 use Rattle.prop_table.specs.declared.index.Index.{Index}
 
 pub record IsIndex (p : Program) (i : Index) : Type 0 where
-  pub sites : (q : ℕ) → q < length p.points → get_or i.sites.lists.items q [] ≡ sites_at p q
-  pub calls : (q : ℕ) → q < length p.points → get_or i.calls.lists.items q [] ≡ calls_at p q
+  pub sites : (q : ℕ) → q < length p.points → get_or i.sites q [] ≡ sites_at p q
+  pub calls : (q : ℕ) → q < length p.points → get_or i.calls q [] ≡ calls_at p q
   pub preconditions : i.preconditions ≡ requires_counts p p.fns

@@ -6,4 +6,7 @@ use Rattle.kernel_serve.proofs.front.bound.Goals as goal
 
 pub returns-in-Err : goal.returns-in-Err
 returns-in-Err c =
-    subst (λ (s : Status). IsBoundAnswer c.args.tree.now.items c.args.annots.now (Err s)) (sym c.type_status.ensures) (no_types c.one_program.ensures c.args.tree.now.items c.args.annots.now c.in-Err.fault c.in-Err.ensures.answer)
+    subst (λ (s : Status). IsBoundAnswer c.args.tree.now.items c.args.annots.now (Err s))
+    (sym c.type_status.ensures)
+    (no_types c.one_program.ensures c.args.tree.now.items c.args.annots.now c.in-Err.fault
+    c.in-Err.ensures.answer)

@@ -7,4 +7,5 @@ abbrev pub decreases-lines : goal.decreases-lines
 decreases-lines l = option_map_or (λ text. length text.now + 1) l.rest 0
 
 abbrev pub invariant-lines : goal.invariant-lines
-invariant-lines l = with_lines l.props l.accepted (option_map_or (λ text. lines_of text.now) l.rest []) ≡ with_lines l.props [] (lines_of l.fn.text)
+invariant-lines l = with_lines l.props l.accepted (option_map_or (λ text. lines_of text.now) l.rest [])
+    ≡ with_lines l.props l.fn.before (lines_of l.fn.text)

@@ -1,0 +1,6 @@
+//! Numbers by their keys.
+#![tactic(auto)]
+
+mod lists;
+
+pub use lists::{ByKey, Keyed};

@@ -1,4 +1,0 @@
-pub mod Evaluation
-pub mod Run
-pub mod RunLaws
-pub mod Tracing

@@ -1,6 +1,0 @@
-use Rattle.std.proofs.Common.{◌≡◌, bytes_eq, drop}
-use Rattle.std.specs.List.{list_any}
-use Rattle.c_front.proofs.parse.is_one_of.Given as goal
-
-abbrev pub invariant-loop-other : goal.invariant-loop-other
-invariant-loop-other l = list_any (λ w. bytes_eq l.word w.now) (drop l.other-index l.words) ≡ list_any (λ w. bytes_eq l.word w.now) l.words

@@ -1,0 +1,11 @@
+pub mod Tests
+pub mod Opened
+pub mod Alarms
+pub mod Pointed
+pub mod Instances
+pub mod Called
+pub mod AlarmsRight
+pub mod Linked
+pub mod Linking
+pub mod Ranging
+pub mod Staying

@@ -1,0 +1,4 @@
+pub mod Decided
+pub mod Links
+pub mod Opened
+pub mod Sites
