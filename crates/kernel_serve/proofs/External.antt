@@ -1,9 +1,8 @@
 -- The entries of a history: those of the opening are right, and those of a script are of registered emitters.
-use Rattle.std.proofs.Common.{◌≡◌, ◌⊎◌, inl, inr, ℕ, ◌+◌, ℤ, List, [], ◌∷◌, ◌++◌, Bool, true, false, cond, map, Option, Some, None, length, refl, sym, subst}
-use Rattle.std.specs.Prelude.{nat_lt, filter}
+use Rattle.std.proofs.Common.{◌≡◌, ◌⊎◌, inl, inr, ℕ, ◌+◌, ℤ, List, [], ◌∷◌, ◌++◌, Bool, true, false, cond, map, Option, Some, None, Result, Ok, Err, refl, sym, subst}
+use Rattle.std.specs.Prelude.{filter}
 use Rattle.std.specs.List.{list_any}
 use Rattle.std.specs.Option.{option_and_then}
-use Rattle.std.proofs.lemmas.Bool.{and_parts}
 use Rattle.std.proofs.lemmas.Option.{none-some, same_Some}
 use Rattle.param_book.specs.Emitters.{is_external, own_count}
 use Rattle.c_ir.specs.Keeps.{Keeps}
@@ -24,9 +23,12 @@ use Rattle.status_history.specs.declared.history.Entry.{Entry}
 use Rattle.status_history.specs.declared.history.History.{History}
 use Rattle.status_rules.specs.Counting.{PlacedEntry, counted_of, current_of, entries_from, entries_of, is_current, is_rival, last_of_each}
 use Rattle.status_rules.specs.Truth.{Runs, AllRight, ExternalRight}
-use Rattle.kernel_serve.specs.Allowed.{emitters_from, is_allowed, is_fit, is_registered, is_of_table, emitters_of, registered}
-use Rattle.kernel_serve.specs.Script.{changes_of, lines_of, with_line, with_lines, with_wanted}
+use Rattle.status_rules.specs.declared.refusals.Placed.{Placed}
+use Rattle.status_rules.specs.declared.refusals.Refusal.{Refusal}
+use Rattle.kernel_serve.specs.Allowed.{answer_after, emitters_from, registered}
+use Rattle.kernel_serve.specs.Script.{changes_of, lines_of, with_answered, with_line, with_lines, with_wanted}
 use Rattle.kernel_serve.specs.Stages.{Makes, opening_of}
+use Rattle.kernel_serve.proofs.Judged.{placed_is_external}
 
 -- an entry is right under all values, or of a registered emitter
 abbrev Good : Runs → Entry → Type 0
@@ -71,14 +73,11 @@ opening_registers_none p = none_from own_count (links_said p (rows_of p) 0 ++ de
 
 -- ---- the script
 
-one_allowed : (runs : Runs) (t : Props) (cs : List Change) (c : Change) → is_allowed t cs c ≡ true
+one_placed : (runs : Runs) (t : Props) (cs : List Change) (c : Change) (placed : Placed) → answer_after t cs c ≡ Ok placed
     → Fine runs (c ∷ [])
-one_allowed runs t cs (Register name set) h = tt
-one_allowed runs t cs (Param n x) h = tt
-one_allowed runs t cs (Emit e) h =
-    let fit = and_parts (is_fit t cs (Emit e)) (nat_lt (length cs) 200000) h in
-    let known = and_parts (is_registered cs e.emitter) (is_of_table t e) fit.0 in
-    (inl (and_parts (is_external e.emitter) (nat_lt e.emitter.0 (emitters_of cs)) known.0).0, tt)
+one_placed runs t cs (Register name set) placed h = tt
+one_placed runs t cs (Param n x) placed h = tt
+one_placed runs t cs (Emit e) placed h = (inl (placed_is_external t cs e placed h), tt)
 
 joined : (runs : Runs) (cs : List Change) (c : Change) → Fine runs cs → Fine runs (c ∷ [])
     → Fine runs (cs ++ c ∷ [])
@@ -87,17 +86,17 @@ joined runs (Register name set ∷ cs) c all one = joined runs cs c all one
 joined runs (Param n x ∷ cs) c all one = joined runs cs c all one
 joined runs (Emit e ∷ cs) c all one = (all.0, joined runs cs c all.1 one)
 
-by_test : (runs : Runs) (b : Bool) (cs more now : List Change) → cond b (Some more) None ≡ Some now
-    → Fine runs cs → (b ≡ true → Fine runs more) → Fine runs now
-by_test runs true cs more now is all next = subst (Fine runs) (same_Some more now is) (next refl)
-by_test runs false cs more now is all next = absurd (none-some now is)
+by_answer : (runs : Runs) (cs now : List Change) (c : Change) (answer : Result Placed Refusal) → with_answered cs c answer ≡ Some now
+    → ((placed : Placed) → answer ≡ Ok placed → Fine runs (cs ++ c ∷ [])) → Fine runs now
+by_answer runs cs now c (Ok placed) is next = subst (Fine runs) (same_Some (cs ++ c ∷ []) now is) (next placed refl)
+by_answer runs cs now c (Err why) is next = absurd (none-some now is)
 
 after_wanted : (runs : Runs) (t : Props) (cs now : List Change) (o : Option Wanted)
     → option_and_then (with_wanted t cs) o ≡ Some now → Fine runs cs → Fine runs now
 after_wanted runs t cs now None is all = absurd (none-some now is)
 after_wanted runs t cs now (Some Blank) is all = subst (Fine runs) (same_Some cs now is) all
-after_wanted runs t cs now (Some (Do c)) is all = by_test runs (is_allowed t cs c) cs
-    (cs ++ c ∷ []) now is all (λ h. joined runs cs c all (one_allowed runs t cs c h))
+after_wanted runs t cs now (Some (Do c)) is all = by_answer runs cs now c (answer_after t cs c) is
+    (λ placed h. joined runs cs c all (one_placed runs t cs c placed h))
 after_wanted runs t cs now (Some (Run a)) is all = absurd (none-some now is)
 
 after_line : (runs : Runs) (t : Props) (lines : List (List ℕ)) (now : List Change) (o : Option (List Change))

@@ -3,6 +3,7 @@ pub mod Ended
 pub mod External
 pub mod FirstLine
 pub mod Fronted
+pub mod Judged
 pub mod Named
 pub mod Stopped
 pub mod Whole

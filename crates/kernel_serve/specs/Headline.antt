@@ -23,7 +23,7 @@ pub record TrueReport (command : Command) (files : Files) (out : List ℕ) : Typ
   pub program : Program
   pub entry : ℕ
   pub is_read : IsRead (entry_name command.main) (contents_of command.file files) program entry
-  -- the changes of the opening and of the named script, all of them allowed
+  -- the changes of the opening and of the named script, none of which is refused
   pub changes : List Change
   pub made : Makes program (script_of files command.script) changes
   -- the bytes are the report that prints full recomputation over these changes
@@ -67,7 +67,7 @@ Outcome words status files before after = (out : List ℕ) × Works words files 
 
 -- Clause `complete`: words that are a command, a file that passes all its stages and, if a script is named,
 -- one of
--- allowed changes within its limit, give Done with the whole report, or Memory.
+-- changes within its limit none of which is refused, give Done with the whole report, or Memory.
 abbrev pub Complete : List (List ℕ) → Status → Files → List ℕ → List ℕ → Type 0
 Complete words status files before after =
     (c : Command) (p : Program) (g : ℕ) (cs : List Change) → report_command words ≡ Some c

@@ -1,41 +1,37 @@
-//! The changes that a script's lines make, each allowed after those before it.
+//! The changes that a script's lines make, none of them refused after those before it.
 
-ghost use Rattle.std.specs.Prelude.{◌≡◌, ◌∷◌, ◌++◌, [], IfOk, true, length};
-ghost use Rattle.std.specs.List.{list_all};
-ghost use Rattle.c_ir.specs.Table.{is_row};
+ghost use Rattle.std.specs.Prelude.{◌≡◌, ◌≤◌, ◌<◌, ◌+◌, ◌∷◌, ◌++◌, [], IfOk, length};
+ghost use Rattle.event_board.specs.Standings.{has_taken, standing_of};
 ghost use Rattle.event_script.specs.Lines.{request_of};
 ghost use Rattle.event_script.specs.Reading.{Gives};
-ghost use Rattle.fc_base.specs.declared.ids.PropId.{PropId};
-ghost use Rattle.status_history.specs.declared.history.Change.TheVariants.{Register, Emit};
-ghost use Rattle.kernel_serve.specs.Allowed.{is_allowed, is_fit, is_new, is_of_table, is_registered, is_taken, registered};
+ghost use Rattle.status_history.specs.declared.history.Change.TheVariants.{Register, Param, Emit};
+ghost use Rattle.status_history.specs.Values.{version_of};
+ghost use Rattle.status_rules.specs.Judge.{emitters_of, is_taken};
+ghost use Rattle.kernel_serve.specs.Allowed.{answer_after, history_after, registered};
 ghost use Rattle.kernel_serve.specs.Script.{with_change, with_line};
+ghost use Rattle.kernel_serve.specs.inner.Keeping.{IsNew, MayJoin};
 ghost use Rattle.kernel_serve.specs.inner.Steps.{GivesChanges};
 
 use crate::status::{FrontFault, Input, Status};
 use c_ir::PropTable;
+use event_board::{Standing, judge_at};
 use event_script::{Script, ScriptFault, Wanted};
-use fc_base::{EmitterId, Name, ParamSet, PropId};
-use param_book::{OWN_COUNT, is_external, own_named};
-use status_history::{Change, Changes, Entry};
+use fc_base::{EmitterId, Name, ParamSet};
+use param_book::{OWN_COUNT, opening, own_named};
+use status_history::{Change, Changes, Entry, History};
+use status_rules::{Placed, Refusal};
 use std::alloc::{AllocError, Global};
 use std::marker::Model;
 
-/// The most emitters that are registered, so that there are at most 256 in all.
-const MOST_REGISTERED: usize = 252;
-
-/// The most hypotheses of an entry.
-const MOST_HYPS: usize = 256;
-
-/// The most changes.
-const MOST_CHANGES: usize = 200_000;
-
-/// A line that is of another form, or asks for what isn't allowed.
+/// A line that is of another form, or asks for a change that is refused.
 const REFUSED: Status = Status::Refused(FrontFault::Unbuilt(Input::Script));
 
 /// The changes of the lines so far, which are what contracts see.
 #[derive(Drop)]
 pub(crate) struct Accepted {
     changes: Changes,
+    /// How many of them set a parameter.
+    version: usize,
     /// A reader that was told of those emitters that were registered.
     script: Script,
 }
@@ -43,13 +39,13 @@ pub(crate) struct Accepted {
 impl Model for Accepted {
     ghost use Rattle.std.specs.Prelude.{◌≡◌, List};
     ghost use Rattle.status_history.specs.declared.history.Change.{Change};
-    ghost use Rattle.kernel_serve.specs.Allowed.{registered};
+    ghost use Rattle.kernel_serve.specs.inner.Keeping.{Keeps};
 
     ghost Value = { List Change };
 
     ghost view = { λ a. a.changes };
 
-    ghost invariant = { λ a. a.script ≡ registered a.changes };
+    ghost invariant = { λ a. Keeps a.changes a.version a.script };
 }
 
 impl Accepted {
@@ -58,8 +54,14 @@ impl Accepted {
         requires { registered changes ≡ [] }
         ensures { result ≡ changes }
     {
-        Accepted {
+        let history = History {
+            opening: opening(0, false),
             changes,
+        };
+        let version = history.version();
+        Accepted {
+            changes: history.changes,
+            version,
             script: Script::new(alloc),
         }
     }
@@ -92,37 +94,69 @@ impl Accepted {
         self.script.line(line, props, 0)
     }
 
-    /// The changes so far and this one, where it is allowed.
+    /// The changes so far and this one, unless it is refused.
     fn with_allowed(self, props: &PropTable, change: Change) -> Result<Accepted, Status>
         ensures { GivesChanges (with_change props.now self change) result }
     {
-        if !self.allows(props, &change) {
-            return Err(REFUSED);
+        match self.judged(props, &change) {
+            Ok(_) => {}
+            Err(_) => return Err(REFUSED),
         }
-        let accepted = match change {
-            Change::Register { name, correctness } => self.with_emitter(name, correctness),
-            Change::Param { .. } => return Err(REFUSED),
-            Change::Emit(entry) => self.with_entry(entry),
-        };
-        match accepted {
+        match self.with(change) {
             Ok(accepted) => Ok(accepted),
             Err(AllocError) => Err(Status::Memory),
         }
     }
 
+    /// The changes so far and one more.
+    fn with(self, change: Change) -> Result<Accepted, AllocError>
+        requires { MayJoin self change }
+        ensures { IfOk result (λ a. a ≡ self ++ change ∷ []) }
+    {
+        match change {
+            Change::Register { name, correctness } => self.with_emitter(name, correctness),
+            Change::Param { number, value } => self.with_setting(number, value),
+            Change::Emit(entry) => self.with_entry(entry),
+        }
+    }
+
     /// The changes so far and a registration.
     fn with_emitter(self, name: Name, correctness: ParamSet) -> Result<Accepted, AllocError>
-        requires { is_new self name ≡ true }
+        requires { IsNew self name }
         ensures { IfOk result (λ a. a ≡ self ++ Register name correctness ∷ []) }
     {
         let Accepted {
             mut changes,
+            version,
             mut script,
         } = self;
         let number = OWN_COUNT + script.len() as u32;
         script.told(name.as_str(), EmitterId(number))?;
         changes.push(Change::Register { name, correctness })?;
-        Ok(Accepted { changes, script })
+        Ok(Accepted {
+            changes,
+            version,
+            script,
+        })
+    }
+
+    /// The changes so far and a setting of a parameter.
+    #[tactic(auto, using(crate::proofs::Emitters::after_setting, crate::proofs::Emitters::version_within))]
+    fn with_setting(self, number: u8, value: i64) -> Result<Accepted, AllocError>
+        requires { length self < 200000 }
+        ensures { IfOk result (λ a. a ≡ self ++ Param number value ∷ []) }
+    {
+        let Accepted {
+            mut changes,
+            version,
+            script,
+        } = self;
+        changes.push(Change::Param { number, value })?;
+        Ok(Accepted {
+            changes,
+            version: version + 1,
+            script,
+        })
     }
 
     /// The changes so far and an emission.
@@ -131,70 +165,72 @@ impl Accepted {
     {
         let Accepted {
             mut changes,
+            version,
             script,
         } = self;
         changes.push(Change::Emit(entry))?;
-        Ok(Accepted { changes, script })
+        Ok(Accepted {
+            changes,
+            version,
+            script,
+        })
     }
 
-    /// Whether a change is allowed after those so far.
-    fn allows(&self, props: &PropTable, change: &Change) -> bool
-        ensures { result ≡ is_allowed props.now self.now change.now }
+    /// What a change is answered after those so far.
+    fn judged(&self, props: &PropTable, change: &Change) -> Result<Placed, Refusal>
+        ensures { result ≡ answer_after props.now self.now change.now }
     {
-        self.fits(props, change) && self.changes.len() < MOST_CHANGES
+        judge_at(props, self.standing(change), change)
     }
 
-    /// Whether nothing but the history's length can refuse a change.
-    fn fits(&self, props: &PropTable, change: &Change) -> bool
-        ensures { result ≡ is_fit props.now self.now change.now }
+    /// What of the changes so far the answer to another one rests on.
+    fn standing(&self, change: &Change) -> Standing
+        ensures value { result ≡ standing_of (history_after self.now) change.now }
+        ensures within { result.version ≤ result.changes }
+        ensures known { result.emitters ≤ result.changes + 4 }
     {
-        match change {
-            Change::Register { name, .. } => self.is_new(name.as_str()),
-            Change::Param { .. } => false,
-            Change::Emit(entry) => {
-                self.is_registered(entry.emitter) && is_of_table(props, entry)
-            }
+        Standing {
+            changes: self.changes.len(),
+            version: self.version(),
+            emitters: self.emitters(),
+            is_taken: self.has_taken(change),
         }
     }
 
-    /// Whether an emitter can be registered under a name.
-    fn is_new(&self, name: &str) -> bool
-        ensures { result ≡ is_new self.now name.now }
+    /// How many of them set a parameter.
+    #[tactic(auto, using(crate::proofs::Emitters::version_within))]
+    fn version(&self) -> usize
+        ensures value { result ≡ version_of (history_after self.now) }
+        ensures within { result ≤ length self.now }
     {
-        !self.is_taken(name) && self.script.len() < MOST_REGISTERED
+        self.version
+    }
+
+    /// How many emitters there are, with the program's own.
+    #[tactic(auto, using(crate::proofs::Emitters::emitters_are, crate::proofs::Emitters::told_within))]
+    fn emitters(&self) -> usize
+        ensures value { result ≡ emitters_of (history_after self.now) }
+        ensures within { result ≤ length self.now + 4 }
+    {
+        let changes = self.changes.as_slice();
+        prove!(changes.len() <= isize::MAX as usize);
+        OWN_COUNT as usize + self.script.len()
+    }
+
+    /// Whether a change registers an emitter under a name that one has.
+    fn has_taken(&self, change: &Change) -> bool
+        ensures { result ≡ has_taken (history_after self.now) change.now }
+    {
+        match change {
+            Change::Register { name, .. } => self.is_taken(name.as_str()),
+            Change::Param { .. } | Change::Emit(_) => false,
+        }
     }
 
     /// Whether an emitter has the name.
     fn is_taken(&self, name: &str) -> bool
-        ensures { result ≡ is_taken self.now name.now }
+        ensures { result ≡ is_taken (history_after self.now) name.now }
     {
         own_named(name).is_some() || self.script.number_told(name).is_some()
     }
-
-    /// Whether the emitter was registered.
-    fn is_registered(&self, emitter: EmitterId) -> bool
-        ensures { result ≡ is_registered self.now emitter }
-    {
-        is_external(emitter) && ((emitter.0 - OWN_COUNT) as usize) < self.script.len()
-    }
-}
-
-/// Whether an entry names properties of the table alone, and at most 256 hypotheses.
-fn is_of_table(props: &PropTable, entry: &Entry) -> bool
-    ensures { result ≡ is_of_table props.now entry.now }
-{
-    props.contains(entry.prop)
-        && are_known(props, entry.hyps.as_slice())
-        && entry.hyps.len() <= MOST_HYPS
-}
-
-fn are_known(props: &PropTable, numbers: &[PropId]) -> bool
-    ensures { result ≡ list_all (λ q. is_row props.now q.0) numbers.now }
-{
-    for number in numbers {
-        if !props.contains(*number) {
-            return false;
-        }
-    }
-    true
 }

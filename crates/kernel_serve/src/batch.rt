@@ -40,7 +40,7 @@ use std::alloc::{AllocError, Global};
 /// cells); its annotations are bound (`acsl_bind::bind`); it defines the function NAME, or `main`; and it has at most
 /// 65,536 properties (Limit). Then the links of its calls and the alarms that operand types decide are emitted
 /// (`rte_alarms`). Else the script, if one is named, is read, and refused where it has more than 16,777,216 bytes
-/// (Limit), or where its lines aren't each blank or ask for a change that is allowed:
+/// (Limit), or where its lines aren't each blank or ask for a change that isn't refused (`status_rules::Refusal`):
 ///
 /// - `{"register":NAME,"correctness":[]}`, where no emitter has the name and there are fewer than 256;
 /// - `{"emit":EMITTER,"prop":NAME,"status":STATUS,"hyps":[NAME, ..]}`, where an earlier line registered the

@@ -50,7 +50,8 @@ where
     }
 }
 
-/// The changes so far and those of the named script; refused where its bytes are no script that is allowed.
+/// The changes so far and those of the named script; refused where its bytes are no script or
+/// one of its changes is refused.
 pub(crate) fn changes_in<F: Shelf>(
     alloc: Global,
     shelf: &mut F,

@@ -1,4 +1,5 @@
 pub mod Claims
+pub mod Events
 pub mod Laws
 pub mod Values
 pub mod inner

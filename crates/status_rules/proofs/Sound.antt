@@ -180,7 +180,7 @@ some_number None d h = absurd (none-some d h)
 some_number (Some n) d h = ap (λ (q : PropId). Some q.0) (same_Some _ d h)
 
 -- what dead_of gives is of kind Dead
-dead_is_dead : (t : Props) (p : ℕ) (d : PropId) → dead_of t.rows p ≡ Some d → is_dead_row t d.0 ≡ true
+pub dead_is_dead : (t : Props) (p : ℕ) (d : PropId) → dead_of t.rows p ≡ Some d → is_dead_row t d.0 ≡ true
 dead_is_dead t p d h =
     option_and_then_some (λ (row : Prop). dead_at t.rows row.point.0) (slice_get t.rows p) d h
     (λ row is found.

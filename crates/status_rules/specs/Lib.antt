@@ -1,6 +1,10 @@
+pub mod Answers
 pub mod Changed
 pub mod Counting
+pub mod Fetch
 pub mod Holds
+pub mod Judge
+pub mod Support
 pub mod Truth
 pub mod Verdicts
 pub mod inner

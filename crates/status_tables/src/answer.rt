@@ -2,8 +2,8 @@
 
 use crate::dice::Dice;
 use crate::line::{LineFault, history, inputs, number};
-use crate::slow;
 use crate::tables::Tables;
+use crate::{certificates, fetches, judged, slow};
 use c_ir::PropTable;
 use fc_base::Verdict;
 use status_history::History;
@@ -21,6 +21,14 @@ pub(crate) enum Part {
     Inputs,
     /// A number of histories over the first table, which are rolled.
     Dice,
+    /// A history over the first table, and a property whose support is asked for.
+    Support,
+    /// A history over the first table, and steps.
+    Check,
+    /// A history over the first table, and a change after it.
+    Judge,
+    /// A history over the first table, a cursor and a limit.
+    Fetch,
 }
 
 impl Part {
@@ -30,6 +38,10 @@ impl Part {
             "small" => Part::Small,
             "admitted" => Part::Admitted,
             "inputs" => Part::Inputs,
+            "support" => Part::Support,
+            "check" => Part::Check,
+            "judge" => Part::Judge,
+            "fetch" => Part::Fetch,
             _ => Part::Dice,
         }
     }
@@ -141,6 +153,10 @@ fn answer(alloc: Global, part: Part, tables: &Tables, line: &str) -> Result<Stri
         Part::Admitted => of_line(alloc, &tables.admitted, line),
         Part::Inputs => of_inputs(alloc, line),
         Part::Dice => of_dice(alloc, &tables.small, line),
+        Part::Support => certificates::of_support(alloc, &tables.small, line),
+        Part::Check => certificates::of_check(alloc, &tables.small, line),
+        Part::Judge => judged::of_change(alloc, &tables.small, line),
+        Part::Fetch => fetches::of_fetch(alloc, &tables.small, line),
     }
 }
 

@@ -1,10 +1,14 @@
-//! Prints the verdicts of histories. Each line of standard input is a history, a list of inputs of a verdict, or a
-//! number of histories that are rolled, by the part that was asked for last; it is printed with its answer. A line
-//! `= PART` asks for a part; it, an empty line and a line that begins with `#` are printed as they are.
+//! Prints what tables of statuses answer. Each line of standard input is a history, perhaps with what is asked of it,
+//! a list of inputs of a verdict, or a number of histories that are rolled, by the part that was asked for last; it is
+//! printed with its answer. A line `= PART` asks for a part; it, an empty line and a line that begins with `#` are
+//! printed as they are.
 #![tactic(auto)]
 
 mod answer;
+mod certificates;
 mod dice;
+mod fetches;
+mod judged;
 mod line;
 mod slow;
 mod tables;
