@@ -66,7 +66,7 @@ negated true is = refl
 negated false is = sym is
 
 -- where there is a check there is a site
-site_needed : (site : Option SiteId) (checks : Checks) → has_site site checks ≡ true → is_some checks.first ≡ true
+pub site_needed : (site : Option SiteId) (checks : Checks) → has_site site checks ≡ true → is_some checks.first ≡ true
     → is_some site ≡ true
 unfolding has_site
 site_needed None checks has first = absurd (true≢false (sym has ∙ negated (is_some checks.first) first))
@@ -92,7 +92,7 @@ overflow_if true checked is = refl
 overflow_if false checked is = is
 
 -- where overflow is visited the operator has the check
-overflow_has : (ty : IntType) (checked : Bool) → may_end (least ty) checked (Some Overflow) ≡ true
+pub overflow_has : (ty : IntType) (checked : Bool) → may_end (least ty) checked (Some Overflow) ≡ true
     → is_some (overflow ty) ≡ true
 overflow_has ty checked is =
     overflow_if (is_signed ty) checked

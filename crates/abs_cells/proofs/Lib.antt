@@ -1,0 +1,4 @@
+pub mod Crossed
+pub mod Index
+pub mod Keeping
+pub mod Steps

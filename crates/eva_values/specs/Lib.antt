@@ -1,0 +1,5 @@
+pub mod Laws
+pub mod Marks
+pub mod Shapes
+pub mod Values
+pub mod inner

@@ -1,0 +1,3 @@
+-- What the code keeps: no public contract cites it.
+pub mod Forms
+pub mod Outcomes

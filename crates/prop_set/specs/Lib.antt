@@ -1,0 +1,3 @@
+pub mod Laws
+pub mod Sets
+pub mod inner

@@ -1,0 +1,2 @@
+-- What the code keeps: no public contract cites it.
+pub mod Words
