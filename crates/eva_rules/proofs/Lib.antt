@@ -1,0 +1,14 @@
+pub mod Calls
+pub mod Cover
+pub mod Entries
+pub mod Functions
+pub mod Loops
+pub mod Meaning
+pub mod MeaningCovers
+pub mod Naming
+pub mod Passing
+pub mod Points
+pub mod Sets
+pub mod Start
+pub mod Statements
+pub mod Writing
