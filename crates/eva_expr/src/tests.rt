@@ -1,6 +1,6 @@
 //! One state in which each call is made.
 
-use crate::{Cond, Truth, narrow, truth, value};
+use crate::{Cond, Truth, branched, narrow, truth, value};
 use abs_cells::Cells;
 use abs_state::State;
 use c_ir::{Expr, IntType, Node, Pred};
@@ -85,6 +85,15 @@ fn is_seen(alloc: Global, params: &ParamValues) -> Result<bool, AllocError> {
     Ok(seen.value.range == Interval::Within { lo: 0, hi: 1 } && seen.marks.is_empty())
 }
 
+/// Whether the same is said of it in a branch, which leaves 0 to 2 and 3 to 9.
+fn branches(alloc: Global, params: &ParamValues) -> Result<bool, AllocError> {
+    let start = digit(alloc)?;
+    let cond = below_three(alloc)?;
+    let both = branched(alloc, &start, &cond, params)?;
+    let is_same = both.value.range == Interval::Within { lo: 0, hi: 1 } && both.marks.is_empty();
+    Ok(is_same && is_from(&both.taken, 0, 2) && is_from(&both.skipped, 3, 9))
+}
+
 /// Whether the condition leaves 0 to 2.
 fn narrows_by_expr(alloc: Global, params: &ParamValues) -> Result<bool, AllocError> {
     let start = digit(alloc)?;
@@ -108,6 +117,7 @@ fn each_call_is_made(rt: HostRuntime) -> Result<(), AllocError> {
     let alloc = rt.alloc();
     let params = ParamValues { values: [1; 16] };
     assert!(rt; is_seen(alloc, &params)?);
+    assert!(rt; branches(alloc, &params)?);
     assert!(rt; narrows_by_expr(alloc, &params)?);
     assert!(rt; narrows_by_pred(alloc, &params)?);
     Ok(())

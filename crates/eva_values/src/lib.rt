@@ -12,6 +12,6 @@ mod shape;
 mod walk;
 
 pub use laws::expressions_cover;
-pub use seen::{Seen, SiteMark, SiteMarks};
+pub use seen::{Branched, Seen, SiteMark, SiteMarks};
 pub use shape::shape_of;
-pub use walk::{evaluated, narrowed};
+pub use walk::{branched, evaluated, narrowed};

@@ -3,7 +3,13 @@
 ghost use Rattle.std.specs.Prelude.{◌≡◌, ◌++◌, ◌&&◌, is_some, IfOk};
 ghost use Rattle.std.specs.Option.{option_copied};
 ghost use Rattle.abs_cells.specs.Cells as cells_spec;
-ghost use Rattle.eva_values.specs.Marks.{mark_read, marks_made};
+ghost use Rattle.eva_values.specs.Marks.{
+  made_by,
+  made_by_unary,
+  mark_read,
+  marks_made,
+  marks_made_unary,
+};
 ghost use Rattle.eva_values.specs.Shapes as shapes;
 ghost use Rattle.eva_values.specs.Values as values;
 ghost use Rattle.eva_values.specs.inner.Forms as forms;
@@ -165,23 +171,25 @@ fn cast_side(ty: IntType, of: &Side) -> Side
     }
 }
 
-/// Adds the marks of an operator with one operand.
-fn add_unary(
-    marks: &mut SiteMarks,
-    operator: (Option<SiteId>, IntType, UnaryOp, bool),
+/// An operator with one operand that is computed: its number, its type, what it is and whether overflow is checked.
+fn unary_by(
+    alloc: Global,
+    cells: Option<&Cells>,
+    operator: (Option<SiteId>, IntType, UnaryOperator, bool),
     value: &Value,
-) -> Result<(), AllocError>
-    ensures { IfOk result (λ _. marks.new
-        ≡ marks.old ++ spec.unary_marks operator.0 operator.1 operator.2 operator.3 value.now) }
+    wanted: bool,
+    marks: &mut SiteMarks,
+) -> Result<Outcome, AllocError>
+    ensures outcome { IfOk result (λ x. x ≡ spec.made_outcome (option_copied cells.entry)
+        (made_by_unary operator.2 (shapes.shape_of operator.1) operator.3 value.now) wanted) }
+    ensures marks { IfOk result (λ _. marks.new ≡ marks.old ++ marks_made_unary operator.0 operator.2
+        (made_by_unary operator.2 (shapes.shape_of operator.1) operator.3 value.now)) }
 {
     let (site, ty, op, overflow) = operator;
-    let op = match op {
-        UnaryOp::Plus | UnaryOp::Not => return Ok(()),
-        UnaryOp::Minus => UnaryOperator::Negate,
-        UnaryOp::Invert => UnaryOperator::Complement,
-    };
     let made = made_unary(op, value, &shape_of(ty), overflow);
-    add_check(marks, site, check_of(op), made.first)
+    add_check(marks, site, check_of(op), made.first)?;
+    let side = unnamed(made.value);
+    Outcome::compared(alloc, cells, side, wanted)
 }
 
 /// An operator with one operand: its number, its type, what it is and whether overflow is checked (C11 6.5.3.3).
@@ -198,35 +206,22 @@ pub(crate) fn unary(
     ensures marks { IfOk result (λ _. marks.new
         ≡ marks.old ++ spec.unary_marks operator.0 operator.1 operator.2 operator.3 operand.side.value) }
 {
+    let (site, ty, op, overflow) = operator;
     let value = operand.side.value;
-    add_unary(marks, operator, &value)?;
-    unary_outcome(alloc, cells, operator, operand, wanted)
-}
-
-fn unary_outcome(
-    alloc: Global,
-    cells: Option<&Cells>,
-    operator: (Option<SiteId>, IntType, UnaryOp, bool),
-    operand: Outcome,
-    wanted: bool,
-) -> Result<Outcome, AllocError>
-    ensures { IfOk result (λ x. x
-        ≡ spec.unary_outcome (option_copied cells.entry) operator.1 operator.2 operator.3 operand wanted) }
-{
-    let (_, ty, op, overflow) = operator;
-    let value = operand.side.value;
-    let value = match op {
-        UnaryOp::Plus => value,
-        UnaryOp::Minus => made_unary(UnaryOperator::Negate, &value, &shape_of(ty), overflow).value,
+    let op = match op {
+        UnaryOp::Plus => return Outcome::compared(alloc, cells, unnamed(value), wanted),
         UnaryOp::Not => return Ok(operand.negated()),
-        UnaryOp::Invert => made_unary(
-            UnaryOperator::Complement,
-            &value,
-            &shape_of(ty),
-            overflow,
-        ).value,
+        UnaryOp::Minus => UnaryOperator::Negate,
+        UnaryOp::Invert => UnaryOperator::Complement,
     };
-    Outcome::compared(alloc, cells, unnamed(value), wanted)
+    unary_by(
+        alloc,
+        cells,
+        (site, ty, op, overflow),
+        &value,
+        wanted,
+        marks,
+    )
 }
 
 /// Whether the operator is `&&` or `||`, whose left operand says where the right one is evaluated (C11 6.5.13, 6.5.14).
@@ -246,26 +241,6 @@ pub(crate) fn goes_by(op: BinaryOp, wanted: bool) -> bool
     is_logic(op) && wanted
 }
 
-/// Adds the marks of an operator with two operands.
-fn add_binary(
-    marks: &mut SiteMarks,
-    operator: (Option<SiteId>, IntType, BinaryOp, bool),
-    left: &Value,
-    right: &Value,
-) -> Result<(), AllocError>
-    ensures { IfOk result (λ _. marks.new ≡ marks.old ++ spec.form_marks (forms.form_of operator.2) operator.0
-        operator.1 operator.3 left.now right.now) }
-{
-    let (site, ty, op, overflow) = operator;
-    match form_of(op) {
-        Form::Logic(_) | Form::Relation(_) => Ok(()),
-        Form::Operator(op) => {
-            let made = made(op, left, right, &shape_of(ty), overflow);
-            add_made(marks, site, op, &made)
-        }
-    }
-}
-
 fn add_made(
     marks: &mut SiteMarks,
     site: Option<SiteId>,
@@ -277,6 +252,28 @@ fn add_made(
     let (first, second) = checks_of(op);
     add_check(marks, site, first, made.first)?;
     add_check(marks, site, second, made.second)
+}
+
+/// An operator with two operands that is computed: its number, its type, what it is and whether overflow is checked
+/// (C11 6.5.5 to 6.5.7, 6.5.10 to 6.5.12).
+fn binary_by(
+    alloc: Global,
+    cells: Option<&Cells>,
+    operator: (Option<SiteId>, IntType, Operator, bool),
+    left: &Side,
+    right: &Side,
+    wanted: bool,
+    marks: &mut SiteMarks,
+) -> Result<Outcome, AllocError>
+    ensures outcome { IfOk result (λ x. x ≡ spec.made_outcome (option_copied cells.entry)
+        (made_by operator.2 (shapes.shape_of operator.1) operator.3 left.now.value right.now.value) wanted) }
+    ensures marks { IfOk result (λ _. marks.new ≡ marks.old ++ marks_made operator.0 operator.2
+        (made_by operator.2 (shapes.shape_of operator.1) operator.3 left.now.value right.now.value)) }
+{
+    let (site, ty, op, overflow) = operator;
+    let made = made(op, &left.value, &right.value, &shape_of(ty), overflow);
+    add_made(marks, site, op, &made)?;
+    Outcome::compared(alloc, cells, unnamed(made.value), wanted)
 }
 
 /// An operator with two operands: its number, its type, what it is and whether overflow is checked (C11 6.5.5 to
@@ -295,22 +292,7 @@ pub(crate) fn binary(
     ensures marks { IfOk result (λ _. marks.new ≡ marks.old ++ spec.form_marks (forms.form_of operator.2) operator.0
         operator.1 operator.3 left.side.value right.side.value) }
 {
-    add_binary(marks, operator, &left.side.value, &right.side.value)?;
-    binary_outcome(alloc, cells, operator, left, right, wanted)
-}
-
-fn binary_outcome(
-    alloc: Global,
-    cells: Option<&Cells>,
-    operator: (Option<SiteId>, IntType, BinaryOp, bool),
-    left: Outcome,
-    right: Outcome,
-    wanted: bool,
-) -> Result<Outcome, AllocError>
-    ensures { IfOk result (λ x. x ≡ spec.form_outcome (forms.form_of operator.2) (option_copied cells.entry)
-        operator.1 operator.3 left right wanted) }
-{
-    let (_, ty, op, overflow) = operator;
+    let (site, ty, op, overflow) = operator;
     match form_of(op) {
         Form::Logic(goes) => Outcome::logic(alloc, goes, left, right, wanted),
         Form::Relation(relation) => {
@@ -319,14 +301,9 @@ fn binary_outcome(
             Outcome::tested(alloc, cells, side, relation, &left, &right, wanted)
         }
         Form::Operator(op) => {
-            let made = made(
-                op,
-                &left.side.value,
-                &right.side.value,
-                &shape_of(ty),
-                overflow,
-            );
-            Outcome::compared(alloc, cells, unnamed(made.value), wanted)
+            let (left, right) = (left.side, right.side);
+            let operator = (site, ty, op, overflow);
+            binary_by(alloc, cells, operator, &left, &right, wanted, marks)
         }
     }
 }

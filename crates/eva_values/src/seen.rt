@@ -1,5 +1,6 @@
 //! What is answered of an expression.
 
+use abs_cells::Cells;
 use c_ir::AlarmKind;
 use fc_base::SiteId;
 use int_interval::Said;
@@ -22,4 +23,13 @@ pub type SiteMarks = Items<SiteMark>;
 pub struct Seen {
     pub value: Value,
     pub marks: SiteMarks,
+}
+
+/// The same of a condition, with the cells for which it comes out true, and false; None where there are none.
+#[derive(Debug, Drop)]
+pub struct Branched {
+    pub value: Value,
+    pub marks: SiteMarks,
+    pub taken: Option<Cells>,
+    pub skipped: Option<Cells>,
 }

@@ -1,6 +1,6 @@
 //! The pass over an expression.
 
-ghost use Rattle.std.specs.Prelude.{◌≡◌, ◌++◌, IfOk};
+ghost use Rattle.std.specs.Prelude.{◌≡◌, ◌++◌, true, false, IfOk};
 ghost use Rattle.std.specs.Option.{option_copied};
 ghost use Rattle.eva_values.specs.Values.{abstracted};
 ghost use Rattle.eva_values.specs.inner.Outcomes.{outcome_of};
@@ -9,7 +9,7 @@ use crate::nodes::{
     binary, cast, choice, constant, element, goes_by, is_logic, nothing, object, unary,
 };
 use crate::outcome::Outcome;
-use crate::seen::{Seen, SiteMarks};
+use crate::seen::{Branched, Seen, SiteMarks};
 use abs_cells::Cells;
 use c_ir::{Expr, Node};
 use sqlite_items::Items;
@@ -56,6 +56,33 @@ pub fn narrowed(
     } else {
         Ok(outcome.no)
     }
+}
+
+/// What a branch by this condition needs, from one pass: its value, what is said of its checks, in order of
+/// evaluation, and the cells for which it comes out true and false. Fails only for want of memory.
+#[tactic(auto, using(crate::proofs::Outcomes::value_is, crate::proofs::Outcomes::yes_is, crate::proofs::Outcomes::no_is))]
+pub fn branched(
+    alloc: Global,
+    cells: Option<&Cells>,
+    cond: &Expr,
+    overflow: bool,
+) -> Result<Branched, AllocError>
+    ensures value { IfOk result (λ b. b.value
+        ≡ ((abstracted overflow cond.now).side (option_copied cells.entry)).value) }
+    ensures marks { IfOk result (λ b. b.marks ≡ (abstracted overflow cond.now).marks (option_copied cells.entry)) }
+    ensures taken { IfOk result (λ b. b.taken
+        ≡ (abstracted overflow cond.now).narrowed true (option_copied cells.entry)) }
+    ensures skipped { IfOk result (λ b. b.skipped
+        ≡ (abstracted overflow cond.now).narrowed false (option_copied cells.entry)) }
+{
+    let mut marks = Items::new(alloc);
+    let outcome = walk(alloc, cells, cond, overflow, true, &mut marks)?;
+    Ok(Branched {
+        value: outcome.side.value,
+        marks,
+        taken: outcome.yes,
+        skipped: outcome.no,
+    })
 }
 
 /// One pass, which adds the marks. The cells of a condition are found where `wanted` says so. The recursion is as

@@ -13,6 +13,7 @@ use Rattle.c_ir.specs.declared.ty.IntType.{IntType}
 use Rattle.c_ir.specs.declared.kind.AlarmKind.TheVariants as A
 use Rattle.int_value.specs.Checks.{equal_row, within_said}
 use Rattle.int_value.specs.Rows.{empty_of, join_row, one_of}
+use Rattle.int_value.specs.declared.made.Made.{Made}
 use Rattle.int_value.specs.declared.value.Value.{Value}
 use Rattle.abs_cells.specs.Cells.{Env, element_of, join_env, value_in}
 use Rattle.abs_cells.specs.Relations.{narrow_both, on_env, opposite_of, relation_said}
@@ -91,14 +92,18 @@ after None a e = e
 after (Some true) a e = a.yes
 after (Some false) a e = a.no
 
+-- of an operator that is computed
+abbrev pub made_outcome : Env → Made → Bool → Outcome
+made_outcome e made wanted = compared_outcome e (unnamed made.value) wanted
+
 -- of an operator with one operand, of which this is the outcome
 abbrev pub unary_outcome : Env → IntType → UnaryOp → Bool → Outcome → Bool → Outcome
 unary_outcome e ty U.Plus overflow a wanted = compared_outcome e (unnamed a.side.value) wanted
 unary_outcome e ty U.Minus overflow a wanted =
-    compared_outcome e (unnamed (made_by_unary Negate (shape_of ty) overflow a.side.value).value) wanted
+    made_outcome e (made_by_unary Negate (shape_of ty) overflow a.side.value) wanted
 unary_outcome e ty U.Not overflow a wanted = negated_outcome a
 unary_outcome e ty U.Invert overflow a wanted =
-    compared_outcome e (unnamed (made_by_unary Complement (shape_of ty) overflow a.side.value).value) wanted
+    made_outcome e (made_by_unary Complement (shape_of ty) overflow a.side.value) wanted
 
 abbrev pub unary_marks : Option SiteId → IntType → UnaryOp → Bool → Value → List SiteMark
 unary_marks site ty U.Plus overflow v = []
@@ -113,7 +118,7 @@ form_outcome (Logic goes) e ty overflow a b wanted = logic_outcome goes a b want
 form_outcome (Relation r) e ty overflow a b wanted =
     tested_outcome e (unnamed (said_value (relation_said r a.side.value b.side.value))) r a.side b.side wanted
 form_outcome (Operator op) e ty overflow a b wanted =
-    compared_outcome e (unnamed (made_by op (shape_of ty) overflow a.side.value b.side.value).value) wanted
+    made_outcome e (made_by op (shape_of ty) overflow a.side.value b.side.value) wanted
 
 abbrev pub form_marks : Form → Option SiteId → IntType → Bool → Value → Value → List SiteMark
 form_marks (Logic goes) site ty overflow v w = []
