@@ -1,5 +1,6 @@
 //! Answers `report` on files of C whose trees are deeper than a usual stack is. Each form of chain is printed with the
-//! size of its file, and with what was written or why the file is refused. Some files have the greatest length.
+//! size of its file, and with what was written or why the file is refused. Some files have the greatest length; the
+//! others are analysed.
 #![tactic(auto)]
 
 mod form;
@@ -7,7 +8,7 @@ mod longest;
 
 use core::thread::Anything;
 use fc_outside::{MemFile, MemShelf, MemSink};
-use form::{Form, forms};
+use form::{Form, Links, forms};
 use kernel_serve::{fault_line, report_run};
 use large_stack::on_large_stack;
 use longest::longest;
@@ -16,16 +17,24 @@ use std::alloc::{AllocError, Global};
 use std::io::Write;
 use std::process::ExitCode;
 
+/// The words of a call that analyses the file, or doesn't.
+fn words(alloc: Global, analysed: bool) -> Result<Vec<String>, AllocError> {
+    let mut words = Vec::new(alloc);
+    words.push(String::from_str(alloc, "report")?)?;
+    words.push(String::from_str(alloc, "f.c")?)?;
+    if !analysed {
+        words.push(String::from_str(alloc, "--no-eva")?)?;
+    }
+    Ok(words)
+}
+
 /// The report on this file, or why it is refused.
-fn said_of(alloc: Global, file: &[u8]) -> Result<Vec<u8>, AllocError> {
+fn said_of(alloc: Global, file: &[u8], analysed: bool) -> Result<Vec<u8>, AllocError> {
     let mut files = Items::new(alloc);
     files.push(MemFile::new(alloc, "f.c", file)?)?;
     let mut shelf = MemShelf::new(alloc, files, 65_536, Items::new(alloc))?;
     let mut sink = MemSink::new(alloc, 65_536, 65_536, Items::new(alloc))?;
-    let mut words = Vec::new(alloc);
-    for word in ["report", "f.c", "--no-eva"] {
-        words.push(String::from_str(alloc, word)?)?;
-    }
+    let words = words(alloc, analysed)?;
     let status = report_run(alloc, words.as_slice(), &mut shelf, &mut sink);
     let mut said = Vec::from_slice(alloc, sink.held())?;
     said.extend_from_slice(fault_line(alloc, &status)?.as_slice())?;
@@ -39,7 +48,8 @@ fn add_line(alloc: Global, lines: &mut Vec<u8>, form: &Form) -> Result<(), Alloc
     let size = file.len();
     let head = format!(in alloc; "{name}, {size} bytes: ")?;
     lines.extend_from_slice(head.as_bytes())?;
-    for byte in said_of(alloc, file.as_slice())?.as_slice() {
+    let analysed = !matches!(form.links, Links::Most);
+    for byte in said_of(alloc, file.as_slice(), analysed)?.as_slice() {
         if *byte == b'\n' {
             lines.push(b'`')?;
         } else {

@@ -1,3 +1,4 @@
 pub mod Members
+pub mod Params
 pub mod Texts
 pub mod Told

@@ -1,16 +1,20 @@
 -- Names in a script (this project's own).
-use Rattle.std.specs.Prelude.{List, [], ◌∷◌, ℕ, Bool, not, ◌==◌, ◌||◌, ◌&&◌, nat_le, length, bytes_eq, Option, Some, None, unwrap_or, if◌then◌else◌}
+use Rattle.std.specs.Prelude.{List, [], ◌∷◌, ℕ, ◌^◌, Bool, not, ◌==◌, ◌||◌, ◌&&◌, bit_or, nat_le, length, codes, bytes_eq, Option, Some, None, unwrap_or, if◌then◌else◌}
 use Rattle.std.specs.List.{list_all}
 use Rattle.std.specs.Map.{lookup}
 use Rattle.std.specs.Char.{is_ascii_alphanumeric}
 use Rattle.fc_base.specs.declared.ids.EmitterId.{EmitterId}
 use Rattle.fc_base.specs.declared.ids.PropId.{PropId}
+use Rattle.fc_base.specs.declared.params.ParamSet.{ParamSet}
 use Rattle.fc_base.specs.declared.status.LocalStatus.{LocalStatus}
 use Rattle.fc_base.specs.declared.status.LocalStatus.TheVariants as Status
 use Rattle.fc_base.specs.Texts.{status_text}
-use Rattle.param_book.specs.Emitters.{own_named}
+use Rattle.param_book.specs.Emitters.{own_named, set}
+use Rattle.param_book.specs.Table.{number_of}
 use Rattle.c_ir.specs.declared.prop.Prop.{Prop}
 use Rattle.c_ir.specs.Table.{first_named}
+use Rattle.event_script.specs.declared.script.Analyser.{Analyser}
+use Rattle.event_script.specs.declared.script.Analyser.TheVariants.{Rte, Eva}
 
 -- space, tab, carriage return, vertical tab and form feed (C11 6.4, without the line feed)
 abbrev pub is_blank : ℕ → Bool
@@ -52,3 +56,17 @@ status_named word =
 -- the property that a name stands for: the first that has it, or no property
 abbrev pub prop_named : List Prop → List ℕ → PropId
 prop_named rows name = unwrap_or (first_named name rows) (record { 0 = 4294967295 })
+
+-- the empty set of parameters
+abbrev pub no_params : ParamSet
+no_params = set 0
+
+-- a set and the parameter with a name; bit 7, which is no parameter's, stands for one that there isn't
+abbrev pub with_param : ParamSet → List ℕ → ParamSet
+with_param before name = set (bit_or before.0 (2 ^ number_of name))
+
+-- the analyser with a name
+abbrev pub analyser_named : List ℕ → Option Analyser
+analyser_named name =
+    if bytes_eq name (codes "rte") then Some Rte
+    else (if bytes_eq name (codes "eva") then Some Eva else None)

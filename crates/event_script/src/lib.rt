@@ -4,7 +4,9 @@
 mod emission;
 mod fault;
 mod names;
+mod registration;
 mod script;
+mod setting;
 mod value;
 
 pub use fault::ScriptFault;

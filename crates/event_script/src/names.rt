@@ -3,10 +3,12 @@
 ghost use Rattle.std.specs.Prelude.{◌≡◌, ◌≤◌, [], ◌==◌, length};
 ghost use Rattle.std.specs.Bool.{OnTrue};
 ghost use Rattle.std.specs.List.{list_all};
-ghost use Rattle.event_script.specs.Names.{is_blank, is_blank_line, is_name_byte, is_name, status_named, prop_named};
+ghost use Rattle.event_script.specs.Names.{is_blank, is_blank_line, is_name_byte, is_name, with_param, status_named, prop_named, analyser_named};
 
+use crate::script::Analyser;
 use c_ir::PropTable;
-use fc_base::{EmitterId, LocalStatus, PropId};
+use fc_base::{EmitterId, LocalStatus, ParamSet, PropId};
+use param_book::number;
 
 /// What stands for an emitter that there isn't.
 pub(crate) const NO_EMITTER: EmitterId = EmitterId(4_294_967_295);
@@ -81,4 +83,23 @@ pub(crate) fn prop_named(props: &PropTable, name: &str) -> PropId
     ensures { result ≡ prop_named props.now.rows name.now }
 {
     props.find(name).unwrap_or(NO_PROP)
+}
+
+/// A set and the parameter with a name. Bit 7, which is no parameter's, stands for one that there isn't.
+#[tactic(auto, using(crate::proofs::Params::number_below))]
+pub(crate) fn with_param(set: ParamSet, name: &str) -> ParamSet
+    ensures { result ≡ with_param set name.now }
+{
+    ParamSet(set.0 | 1 << number(name))
+}
+
+/// The analyser with a name.
+pub(crate) fn analyser_named(name: &str) -> Option<Analyser>
+    ensures { result ≡ analyser_named name.now }
+{
+    match name {
+        "rte" => Some(Analyser::Rte),
+        "eva" => Some(Analyser::Eva),
+        _ => None,
+    }
 }

@@ -4,14 +4,16 @@ ghost use Rattle.std.specs.Prelude.{◌≡◌, ◌==◌, [], OnOk, OnErr, length
 ghost use Rattle.serde_json.specs.View.{view, items_view};
 ghost use Rattle.event_script.specs.Reading.{Gives};
 ghost use Rattle.event_script.specs.Names.{emitter_named, number_told, with_told};
-ghost use Rattle.event_script.specs.Lines.{request_of, change_of, entry_of, props_named};
+ghost use Rattle.event_script.specs.Lines.{request_of, wanted_of, entry_of, props_named};
 
-use crate::emission::{emission_of, name_registered};
+use crate::emission::emission_of;
 use crate::fault::ScriptFault;
 use crate::names::{NO_EMITTER, is_blank_line, prop_named};
+use crate::registration::registration_of;
+use crate::setting::{run_of, setting_of};
 use crate::value::value_of;
 use c_ir::PropTable;
-use fc_base::{EmitterId, Name, ParamSet};
+use fc_base::{EmitterId, Name};
 use indexmap::IndexMap;
 use param_book::own_named;
 use serde_json::Value;
@@ -34,7 +36,7 @@ pub enum Wanted {
     Blank,
     /// One change of the history.
     Do(Change),
-    /// A run of an analyser. No form of line asks for one so far.
+    /// A run of an analyser.
     Run(Analyser),
 }
 
@@ -98,16 +100,23 @@ impl Script {
         self.told.get(name).copied()
     }
 
-    /// What a line asks for, where `last` is the version of an `emit` line. A line is blank, or it is one
-    /// of these JSON objects, with members in any order:
+    /// What a line asks for, where `last` stands for the version of an `emit` line that says none. A line is blank (it
+    /// has only spaces, tabs, carriage returns, vertical tabs and form feeds), or it is one of these JSON objects, with
+    /// members in any order and no others:
     ///
-    /// - `{"register":NAME,"correctness":[]}`, where NAME has 1 to 64 bytes, each an ASCII letter or digit,
-    ///   `_` or `-`;
-    /// - `{"emit":EMITTER,"prop":NAME,"status":STATUS,"hyps":[NAME, ..]}`.
+    /// - `{"register":NAME,"correctness":[PARAM, ..]}`, where NAME has 1 to 64 bytes, each an ASCII letter or digit,
+    ///   `_` or `-`: `Change::Register`, with the set of the parameters that are named;
+    /// - `{"emit":EMITTER,"prop":NAME,"status":STATUS,"hyps":[NAME, ..]}`, or with a `"version":VERSION` too, a whole
+    ///   number from 0 to 4294967295: `Change::Emit`;
+    /// - `{"param":PARAM,"value":VALUE}`, with a whole number from -2^63 to 2^63 - 1: `Change::Param`;
+    /// - `{"run":"rte"}`: `Wanted::Run`, of `Analyser::Rte`;
+    /// - `{"run":"eva"}`: `Wanted::Run`, of `Analyser::Eva`.
     ///
-    /// An emitter that it wasn't told of and that isn't the program's own stands as 4294967295, and so does a property
-    /// that isn't in the table. Of a repeated key the last value counts. The answer is `Form` exactly where
-    /// the line is none of these, also where it isn't UTF-8. It leaves the reader as it was.
+    /// What there isn't stands as a number that nothing has: an emitter that it wasn't told of and that isn't the
+    /// program's own as 4294967295, a property that isn't in the table as 4294967295, and a parameter as 7. A whole
+    /// number is written in digits alone, perhaps behind a minus sign; `-0`, `1.0`, `1e2` and `null` are none. Of a
+    /// repeated key the last value counts. The answer is `Form` exactly where the line is none of these, also where
+    /// it isn't UTF-8. It leaves the reader as it was.
     #[tactic(auto, unfolding(crate::specs::Lines::request_of))]
     pub fn line(&mut self, text: &[u8], props: &PropTable, last: u32) -> Result<Wanted, ScriptFault>
         ensures value { Gives (λ w. w) result (request_of self.old props.now.rows last text.now) }
@@ -117,29 +126,34 @@ impl Script {
             return Ok(Wanted::Blank);
         }
         let value = value_of(self.alloc, text)?;
-        let change = self.change_of(&value, props, last)?;
-        Ok(Wanted::Do(change))
+        self.wanted_of(&value, props, last)
     }
 
-    /// The change that a line's value is.
-    fn change_of(&self, value: &Value, props: &PropTable, last: u32) -> Result<Change, ScriptFault>
-        ensures { Gives (λ c. c) result (change_of self.now props.now.rows last (view value.now)) }
+    /// What a line's value asks for.
+    fn wanted_of(&self, value: &Value, props: &PropTable, last: u32) -> Result<Wanted, ScriptFault>
+        ensures { Gives (λ w. w) result (wanted_of self.now props.now.rows last (view value.now)) }
     {
-        if let Some(name) = name_registered(value) {
-            let name = Name::new(self.alloc, name)?;
-            let correctness = ParamSet(0);
-            return Ok(Change::Register { name, correctness });
+        if let Some(said) = registration_of(value) {
+            let name = Name::new(self.alloc, said.name)?;
+            let correctness = said.correctness;
+            return Ok(Wanted::Do(Change::Register { name, correctness }));
+        }
+        if let Some(change) = setting_of(value) {
+            return Ok(Wanted::Do(change));
+        }
+        if let Some(analyser) = run_of(value) {
+            return Ok(Wanted::Run(analyser));
         }
         let entry = self.entry_of(value, props, last)?;
-        Ok(Change::Emit(entry))
+        Ok(Wanted::Do(Change::Emit(entry)))
     }
 
     /// The entry that an `emit` line's value is.
     #[tactic(auto, unfolding(crate::specs::Lines::entry_of))]
-    fn entry_of(&self, value: &Value, props: &PropTable, version: u32) -> Result<Entry, ScriptFault>
-        ensures { Gives (λ e. e) result (entry_of self.now props.now.rows version (view value.now)) }
+    fn entry_of(&self, value: &Value, props: &PropTable, last: u32) -> Result<Entry, ScriptFault>
+        ensures { Gives (λ e. e) result (entry_of self.now props.now.rows last (view value.now)) }
     {
-        let Some(said) = emission_of(value) else {
+        let Some(said) = emission_of(value, last) else {
             return Err(ScriptFault::Form);
         };
         let hyps = props_named(self.alloc, props, said.hyps)?;
@@ -148,7 +162,7 @@ impl Script {
             prop: prop_named(props, said.prop),
             status: said.status,
             hyps,
-            version,
+            version: said.version,
         })
     }
 

@@ -3,7 +3,7 @@
 ghost use Rattle.std.specs.Prelude.{◌≡◌, option_map};
 ghost use Rattle.serde_json.specs.View.{view, items_view};
 ghost use Rattle.event_script.specs.Reading.{Gives};
-ghost use Rattle.event_script.specs.Values.{value_of, text_at, items_at, is_empty, has_members};
+ghost use Rattle.event_script.specs.Values.{value_of, text_at, items_at, i64_at, u32_of, has_members};
 
 use crate::fault::ScriptFault;
 use serde_json::Value;
@@ -40,12 +40,18 @@ pub(crate) fn items_at<'v>(value: &'v Value, key: &str) -> Option<&'v [Value]>
     Some(items.as_slice())
 }
 
-/// Whether an array has no items.
-#[tactic(auto, using(crate::proofs::Members::count_none))]
-pub(crate) fn is_empty(items: &[Value]) -> bool
-    ensures { result ≡ is_empty (items_view items.now) }
+/// The whole number of a member, where it has 64 bits with its sign.
+pub(crate) fn i64_at(value: &Value, key: &str) -> Option<i64>
+    ensures { result ≡ i64_at key.now (view value.now) }
 {
-    items.is_empty()
+    value.get(key)?.as_i64()
+}
+
+/// The whole number that a value is, where it has 32 bits and no sign.
+pub(crate) fn u32_of(value: &Value) -> Option<u32>
+    ensures { result ≡ u32_of (view value.now) }
+{
+    u32::try_from(value.as_u64()?).ok()
 }
 
 /// Whether the value is an object of this many members.

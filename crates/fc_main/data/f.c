@@ -1,4 +1,2 @@
-int main(void) { int x = 4;
-x = x + 1;
-//@ assert a: x == 5;
-return x; }
+int main(void) { int x = 5; //@ assert a: x < 10;
+return 0; }

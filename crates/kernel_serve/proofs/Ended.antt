@@ -8,17 +8,19 @@ use Rattle.std.proofs.lemmas.Option.{none-some, same_Some}
 use Rattle.c_ir.specs.Keeps.{Keeps}
 use Rattle.prop_runs.specs.Laws.{RunsKeepLaws}
 use Rattle.prop_runs.specs.Numbers.{props_of, runs_of}
+use Rattle.eva_rules.specs.Laws.{EntriesAreRight}
 use Rattle.rte_alarms.specs.Laws.{DecidedAreRight, LinksAreRight}
-use Rattle.status_history.specs.declared.history.Change.{Change}
+use Rattle.status_history.specs.Laws.{ValuesStay}
+use Rattle.status_history.specs.declared.history.History.{History}
 use Rattle.status_rules.specs.Truth.{VerdictsAreTrue}
 use Rattle.kernel_serve.specs.declared.status.Status.{Status}
 use Rattle.kernel_serve.specs.declared.status.Status.TheVariants as S
 use Rattle.kernel_serve.specs.Headline.{Complete, Outcome, Says, TrueReport}
-use Rattle.kernel_serve.specs.Stages.{AtFile, AtWords, Works, history_of, report_of, script_of}
+use Rattle.kernel_serve.specs.Stages.{AtFile, AtWords, Works, report_of, script_of}
 use Rattle.kernel_serve.specs.declared.front.Entered.{Entered}
 use Rattle.kernel_serve.specs.Told.{Files, WhereTold}
 use Rattle.kernel_serve.specs.Words.{Command, report_command}
-use Rattle.kernel_serve.specs.inner.Steps.{IsStop, OnlyReport, OnlyText, StopsAtFile, ToldChanges}
+use Rattle.kernel_serve.specs.inner.Steps.{IsStop, OnlyReport, OnlyText, StopsAtFile, ToldHistory}
 use Rattle.kernel_serve.proofs.Stopped.{FileTold, made_by}
 use Rattle.kernel_serve.proofs.External.{all_right}
 
@@ -35,6 +37,7 @@ says_nothing words S.ReadFault fs bs now stop = tt
 says_nothing words S.Memory fs bs now stop = tt
 says_nothing words (S.Refused fault) fs bs now stop = tt
 says_nothing words (S.Limit fault) fs bs now stop = tt
+says_nothing words (S.ScriptLine line why) fs bs now stop = tt
 says_nothing words S.Done fs bs now stop = absurd stop
 says_nothing words S.Usage fs bs now stop = tt
 says_nothing words S.WriteFault fs bs now stop = tt
@@ -61,6 +64,8 @@ outcome_of words c (S.Refused fault) fs bs is stop stops =
     ([], at_words words c fs (S.Refused fault) [] is stops, sym (append-nil bs))
 outcome_of words c (S.Limit fault) fs bs is stop stops =
     ([], at_words words c fs (S.Limit fault) [] is stops, sym (append-nil bs))
+outcome_of words c (S.ScriptLine line why) fs bs is stop stops =
+    ([], at_words words c fs (S.ScriptLine line why) [] is stops, sym (append-nil bs))
 outcome_of words c S.Done fs bs is stop stops = absurd stop
 outcome_of words c S.Usage fs bs is stop stops = absurd stop
 outcome_of words c S.WriteFault fs bs is stop stops = absurd stop
@@ -77,7 +82,7 @@ complete_of : (words : List (List ℕ)) (c : Command) (status : Status) (fs : Fi
     → Complete words status fs bs bs
 complete_of words c status fs bs is quiet only d p g cs call read made =
     let same : c ≡ d = same_Some c d (sym is ∙ call) in
-    not_read status quiet (report_of d p g cs)
+    not_read status quiet (report_of d p cs)
     (subst (λ (e : Command). OnlyReport fs e (Err status)) same only p g cs read made)
   where
     not_read : (status : Status) → (status ≡ S.ReadFault → ⊥) → (text : List ℕ) → OnlyText text (Err status)
@@ -86,6 +91,7 @@ complete_of words c status fs bs is quiet only d p g cs call read made =
     not_read S.Memory quiet text h = inl refl
     not_read (S.Refused fault) quiet text h = absurd h
     not_read (S.Limit fault) quiet text h = absurd h
+    not_read (S.ScriptLine line why) quiet text h = absurd h
     not_read S.Done quiet text h = absurd h
     not_read S.Usage quiet text h = absurd h
     not_read S.WriteFault quiet text h = absurd h
@@ -129,6 +135,7 @@ stop_apart S.ReadFault stop = ((λ e. absurd cc), (λ e. absurd cc))
 stop_apart S.Memory stop = ((λ e. absurd cc), (λ e. absurd cc))
 stop_apart (S.Refused fault) stop = ((λ e. absurd cc), (λ e. absurd cc))
 stop_apart (S.Limit fault) stop = ((λ e. absurd cc), (λ e. absurd cc))
+stop_apart (S.ScriptLine line why) stop = ((λ e. absurd cc), (λ e. absurd cc))
 stop_apart S.Done stop = absurd stop
 stop_apart S.Usage stop = absurd stop
 stop_apart S.WriteFault stop = absurd stop
@@ -143,33 +150,32 @@ pub no_write_fault : {A : Type 0} (status : Status) → IsStop status → status
 no_write_fault status stop e = absurd ((stop_apart status stop).1 e)
 
 -- what is written at Done is true
-true_by : RunsKeepLaws → VerdictsAreTrue → LinksAreRight → DecidedAreRight
-    → (fs : Files) (c : Command) (e : Entered) (cs : List Change) (text : List ℕ) → Keeps e.program
-    → FileTold (Some fs) c (Ok e) → ToldChanges (Some fs) c.script e.program (Ok cs) → text
-    ≡ report_of c e.program e.entry cs → TrueReport c fs text
+true_by : RunsKeepLaws → VerdictsAreTrue → LinksAreRight → DecidedAreRight → EntriesAreRight → ValuesStay
+    → (fs : Files) (c : Command) (e : Entered) (cs : History) (text : List ℕ) → Keeps e.program
+    → FileTold (Some fs) c (Ok e) → ToldHistory (Some fs) c e (Ok cs) → text
+    ≡ report_of c e.program cs → TrueReport c fs text
 unfolding report_of
-true_by laws law links decided fs c e cs text keeps file script printed =
-    let made = made_by e.program (script_of fs c.script) cs script in
+true_by laws law links decided said stay fs c e cs text keeps file script printed =
+    let made = made_by c e.program e.entry (script_of fs c.script) cs script in
     record {
       program = e.program;
       entry = e.entry;
       is_read = file.found;
-      changes = cs;
+      history = cs;
       made = made;
       printed = printed;
-      true_of_runs = λ right. law (props_of e.program) (runs_of e.program) (history_of c e.entry cs)
+      true_of_runs = λ right. law (props_of e.program) (runs_of e.program) cs
           (laws e.program keeps)
-          (all_right links decided e.program (script_of fs c.script)
-          (history_of c e.entry cs) keeps made right);
+          (all_right links decided said stay c e.program e.entry (script_of fs c.script) cs keeps made right);
     }
 
-pub true_told : RunsKeepLaws → VerdictsAreTrue → LinksAreRight → DecidedAreRight
-    → (files : Option Files) (c : Command) (e : Entered) (cs : List Change) (text : List ℕ) → Keeps e.program
-    → FileTold files c (Ok e) → ToldChanges files c.script e.program (Ok cs) → text
-    ≡ report_of c e.program e.entry cs → IfSome files (λ fs. TrueReport c fs text)
-true_told laws law links decided None c e cs text keeps file script printed = tt
-true_told laws law links decided (Some fs) c e cs text keeps file script printed =
-    true_by laws law links decided fs c e cs text keeps file script printed
+pub true_told : RunsKeepLaws → VerdictsAreTrue → LinksAreRight → DecidedAreRight → EntriesAreRight → ValuesStay
+    → (files : Option Files) (c : Command) (e : Entered) (cs : History) (text : List ℕ) → Keeps e.program
+    → FileTold files c (Ok e) → ToldHistory files c e (Ok cs) → text
+    ≡ report_of c e.program cs → IfSome files (λ fs. TrueReport c fs text)
+true_told laws law links decided said stay None c e cs text keeps file script printed = tt
+true_told laws law links decided said stay (Some fs) c e cs text keeps file script printed =
+    true_by laws law links decided said stay fs c e cs text keeps file script printed
 
 pub done_says : (words : List (List ℕ)) (c : Command) (files : Option Files) (before after : Option (List ℕ))
     (text : List ℕ) → report_command words ≡ Some c → IfSome files (λ fs. TrueReport c fs text) → after

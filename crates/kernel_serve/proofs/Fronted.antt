@@ -301,6 +301,7 @@ entry_stops : (name : List ℕ) (is : List Item) (annots : List Annot) (p : Prog
 entry_stops name is annots p S.Memory b h = tt
 entry_stops name is annots p (S.Refused fault) b h = inr (b.skeleton, b.checks, inr (p, b.binds, h))
 entry_stops name is annots p (S.Limit fault) b h = inr (b.skeleton, b.checks, inr (p, b.binds, h))
+entry_stops name is annots p (S.ScriptLine line why) b h = h
 entry_stops name is annots p S.Done b h = h
 entry_stops name is annots p S.Usage b h = h
 entry_stops name is annots p S.ReadFault b h = h
@@ -310,6 +311,7 @@ unbound : (status : Status) (p : Program) (g : ℕ) → OnlyBound p (Err status)
 unbound S.Memory p g h = tt
 unbound (S.Refused fault) p g h = h
 unbound (S.Limit fault) p g h = h
+unbound (S.ScriptLine line why) p g h = h
 unbound S.Done p g h = h
 unbound S.Usage p g h = h
 unbound S.ReadFault p g h = h
@@ -358,6 +360,7 @@ typed_stops name file ts is annots (S.Refused fault) within lexes parses noted h
     (within, inr (ts, lexes, inr (is, parses, inr (annots, noted, h))))
 typed_stops name file ts is annots (S.Limit fault) within lexes parses noted h = inr
     (within, inr (ts, lexes, inr (is, parses, inr (annots, noted, h))))
+typed_stops name file ts is annots (S.ScriptLine line why) within lexes parses noted h = h
 typed_stops name file ts is annots S.Done within lexes parses noted h = h
 typed_stops name file ts is annots S.Usage within lexes parses noted h = h
 typed_stops name file ts is annots S.ReadFault within lexes parses noted h = h

@@ -7,11 +7,11 @@ use Rattle.c_ir.specs.Props.{Props}
 use Rattle.status_history.specs.declared.history.Change.{Change}
 use Rattle.status_history.specs.declared.history.Change.TheVariants.{Register, Param, Emit}
 use Rattle.status_history.specs.declared.history.Entry.{Entry}
+use Rattle.status_history.specs.declared.history.History.{History}
 use Rattle.status_rules.specs.Judge.{emitters_of, entry_rows, first_of, history_full, if_so, is_taken, judge, name_taken, placed_of, refused_or, reserved_emitter, set_out_of_range, too_many_emitters, unknown_emitter, value_out_of_range}
 use Rattle.status_rules.specs.declared.refusals.Placed.{Placed}
 use Rattle.status_rules.specs.declared.refusals.Refusal.{Refusal}
 use Rattle.status_rules.specs.declared.refusals.Refusal.TheVariants as R
-use Rattle.kernel_serve.specs.Allowed.{answer_after, history_after}
 use Rattle.kernel_serve.specs.inner.Keeping.{MayJoin}
 use Rattle.kernel_serve.proofs.Emitters.{emitters_are}
 
@@ -36,33 +36,30 @@ not_not true h = refl
 not_not false h = absurd (false≢true (sym h))
 
 -- an entry that isn't refused is of a registered emitter
-pub placed_is_external : (t : Props) (cs : List Change) (e : Entry) (placed : Placed)
-    → answer_after t cs (Emit e) ≡ Ok placed → is_external e.emitter ≡ true
+pub placed_is_external : (t : Props) (h : History) (e : Entry) (placed : Placed)
+    → judge t h (Emit e) ≡ Ok placed → is_external e.emitter ≡ true
 unfolding judge
-placed_is_external t cs e placed is =
-    let h = history_after cs in
+placed_is_external t h e placed is =
     let rest = rest_none (unknown_emitter h e) (reserved_emitter e ∷ entry_rows t h e) (placed_of h (Emit e)) placed is in
     not_not (is_external e.emitter) (stands_not (not (is_external e.emitter)) R.ReservedEmitter
     (first_none (reserved_emitter e) (entry_rows t h e) (placed_of h (Emit e)) placed rest))
 
 -- a change that isn't refused may join
-pub may_join : (t : Props) (cs : List Change) (c : Change) (placed : Placed) → answer_after t cs c ≡ Ok placed
-    → MayJoin cs c
+pub may_join : (t : Props) (h : History) (c : Change) (placed : Placed) → judge t h c ≡ Ok placed
+    → MayJoin h c
 unfolding judge
-may_join t cs (Register name set) placed is =
-    let h = history_after cs in
+may_join t h (Register name set) placed is =
     let p = placed_of h (Register name set) in
     let second = rest_none (set_out_of_range set) (name_taken h name ∷ too_many_emitters h ∷ history_full h ∷ []) p placed is in
     let third = rest_none (name_taken h name) (too_many_emitters h ∷ history_full h ∷ []) p placed second in
     let few = leb-false 256 (emitters_of h) (stands_not (nat_le 256 (emitters_of h)) (R.TooManyEmitters 256)
     (first_none (too_many_emitters h) (history_full h ∷ []) p placed third)) in (
       stands_not (is_taken h name) R.NameTaken (first_none (name_taken h name) (too_many_emitters h ∷ history_full h ∷ []) p placed second),
-      omega (arith, few, emitters_are cs),
+      omega (arith, few, emitters_are h),
     )
-may_join t cs (Param n x) placed is =
-    let h = history_after cs in
+may_join t h (Param n x) placed is =
     let p = placed_of h (Param n x) in
     let second = rest_none (value_out_of_range t n x) (history_full h ∷ []) p placed is in
-    leb-false 200000 (length cs) (stands_not (nat_le 200000 (length cs)) (R.HistoryFull 200000)
+    leb-false 200000 (length h.changes) (stands_not (nat_le 200000 (length h.changes)) (R.HistoryFull 200000)
     (first_none (history_full h) [] p placed second))
-may_join t cs (Emit e) placed is = tt
+may_join t h (Emit e) placed is = tt

@@ -44,28 +44,30 @@ if_no_more : (c : Command) (words : List (List ℕ)) → IfSome c.main Short →
 if_no_more c [] h = h
 if_no_more c (word ∷ rest) h = tt
 
-with_main : (file : List ℕ) (script : Option (List ℕ)) (m : Taken (Option (List ℕ)))
-    → IfSome m.value Short → ShortMain (after_main file script m)
-with_main file script m h =
+with_main : (file : List ℕ) (script : Option (List ℕ)) (no_eva : Bool) (m : Taken (Option (List ℕ)))
+    → IfSome m.value Short → ShortMain (after_main file script no_eva m)
+with_main file script no_eva m h =
     let lib = take_flag (codes "--lib-entry") m.rest in
     let points = take_flag (codes "--points") lib.rest in
     if_no_more (record {
       file = file;
       script = script;
       main = m.value;
+      no_eva = no_eva;
       lib_entry = lib.value;
       points = points.value;
     }) points.rest h
 
-of_value : (file : List ℕ) (script : Option (List ℕ)) (o : Option (Taken (Option (List ℕ))))
-    → ShortValue o → ShortMain (option_and_then (after_main file script) o)
-of_value file script None h = tt
-of_value file script (Some m) h = with_main file script m h
+of_value : (file : List ℕ) (script : Option (List ℕ)) (no_eva : Bool) (o : Option (Taken (Option (List ℕ))))
+    → ShortValue o → ShortMain (option_and_then (after_main file script no_eva) o)
+of_value file script no_eva None h = tt
+of_value file script no_eva (Some m) h = with_main file script no_eva m h
 
 with_script : (file : List ℕ) (s : Taken (Option (List ℕ))) → ShortMain (after_script file s)
 with_script file s =
-    let words = (take_flag (codes "--no-eva") s.rest).rest in
-    of_value file s.value (take_value (codes "--main") is_name words) (short_value (codes "--main") words)
+    let no_eva = take_flag (codes "--no-eva") s.rest in
+    of_value file s.value no_eva.value (take_value (codes "--main") is_name no_eva.rest)
+    (short_value (codes "--main") no_eva.rest)
 
 of_script : (file : List ℕ) (o : Option (Taken (Option (List ℕ))))
     → ShortMain (option_and_then (after_script file) o)

@@ -4,9 +4,9 @@ use Rattle.std.specs.Prelude.{Result, Ok, Err}
 use Rattle.std.proofs.lemmas.List.{take_all, length-take}
 use Rattle.std.proofs.lemmas.Bool.{cases_lt}
 use Rattle.kernel_serve.specs.declared.front.Entered.{Entered}
-use Rattle.c_ir.specs.Props.{Props}
+use Rattle.c_ir.specs.Programs.{Program}
 use Rattle.fc_outside.specs.Whole.{FirstBytes}
-use Rattle.status_history.specs.declared.history.Change.{Change}
+use Rattle.status_history.specs.declared.history.History.{History}
 use Rattle.kernel_serve.specs.Limits.{most_file, most_script}
 use Rattle.kernel_serve.specs.Stages.{AtLength}
 use Rattle.kernel_serve.specs.declared.status.Status.{Status}
@@ -33,6 +33,7 @@ unless (Err (S.Refused f)) fact h = h
 unless (Err S.Usage) fact h = h
 unless (Err S.WriteFault) fact h = h
 unless (Err (S.Limit f)) fact h = h
+unless (Err (S.ScriptLine line why)) fact h = h
 
 -- a file that is too long stops so, whatever its bytes are
 long_length : (name file all : List ℕ) (status : Status) (out : List ℕ) → most_file < length file
@@ -47,6 +48,7 @@ long_stops name file all (S.Refused fault) long longer h = long_length name file
     (S.Refused fault) _ long longer h
 long_stops name file all (S.Limit fault) long longer h = long_length name file all
     (S.Limit fault) _ long longer h
+long_stops name file all (S.ScriptLine line why) long longer h = h
 long_stops name file all S.ReadFault long longer h = h
 long_stops name file all S.Done long longer h = h
 long_stops name file all S.Usage long longer h = h
@@ -79,31 +81,32 @@ file_of_all name (Some all) bytes answer first h =
     unless answer (IsFileAnswer name all answer)
     (file_answer name all answer (subst (λ (bs : List ℕ). IsFileAnswer name bs answer) first h))
 
-long_script : (t : Props) (before : List Change) (script all : List ℕ) (answer : Result (List Change) Status)
-    → most_script < length script → most_script < length all → IsScriptAnswer t before script answer
-    → IsScriptAnswer t before all answer
-long_script t before script all (Ok cs) long longer h = absurd (omega (arith, long, h.0))
-long_script t before script all (Err S.Memory) long longer h = tt
-long_script t before script all (Err (S.Refused fault)) long longer h = absurd (omega (arith, long, h.1))
-long_script t before script all (Err (S.Limit fault)) long longer h = (h.0, longer)
-long_script t before script all (Err S.ReadFault) long longer h = h
-long_script t before script all (Err S.Done) long longer h = h
-long_script t before script all (Err S.Usage) long longer h = h
-long_script t before script all (Err S.WriteFault) long longer h = h
+long_script : (p : Program) (before : History) (script all : List ℕ) (answer : Result History Status)
+    → most_script < length script → most_script < length all → IsScriptAnswer p before script answer
+    → IsScriptAnswer p before all answer
+long_script p before script all (Ok cs) long longer h = absurd (omega (arith, long, h.0))
+long_script p before script all (Err S.Memory) long longer h = tt
+long_script p before script all (Err (S.Refused fault)) long longer h = h
+long_script p before script all (Err (S.ScriptLine line why)) long longer h = absurd (omega (arith, long, h.0))
+long_script p before script all (Err (S.Limit fault)) long longer h = (h.0, longer)
+long_script p before script all (Err S.ReadFault) long longer h = h
+long_script p before script all (Err S.Done) long longer h = h
+long_script p before script all (Err S.Usage) long longer h = h
+long_script p before script all (Err S.WriteFault) long longer h = h
 
-script_answer : (t : Props) (before : List Change) (all : List ℕ) (answer : Result (List Change) Status)
-    → IsScriptAnswer t before (take (most_script + 1) all) answer → IsScriptAnswer t before all answer
-script_answer t before all answer h = elim (read_or_long all most_script) [
-  | inl same ↦ subst (λ (bs : List ℕ). IsScriptAnswer t before bs answer) same h
-  | inr long ↦ long_script t before (take (most_script + 1) all) all answer long.0 long.1 h
+script_answer : (p : Program) (before : History) (all : List ℕ) (answer : Result History Status)
+    → IsScriptAnswer p before (take (most_script + 1) all) answer → IsScriptAnswer p before all answer
+script_answer p before all answer h = elim (read_or_long all most_script) [
+  | inl same ↦ subst (λ (bs : List ℕ). IsScriptAnswer p before bs answer) same h
+  | inr long ↦ long_script p before (take (most_script + 1) all) all answer long.0 long.1 h
 ]
 
-pub script_of_all : (t : Props) (before : List Change) (told : Option (List ℕ)) (bytes : List ℕ)
-    (answer : Result (List Change) Status) → FirstBytes (most_script + 1) told bytes
-    → IsScriptAnswer t before bytes answer
-    → IfSome told (λ all. UnlessReadFault answer (IsScriptAnswer t before all answer))
-script_of_all t before None bytes answer first h = tt
-script_of_all t before (Some all) bytes answer first h =
-    unless answer (IsScriptAnswer t before all answer)
-    (script_answer t before all answer
-    (subst (λ (bs : List ℕ). IsScriptAnswer t before bs answer) first h))
+pub script_of_all : (p : Program) (before : History) (told : Option (List ℕ)) (bytes : List ℕ)
+    (answer : Result History Status) → FirstBytes (most_script + 1) told bytes
+    → IsScriptAnswer p before bytes answer
+    → IfSome told (λ all. UnlessReadFault answer (IsScriptAnswer p before all answer))
+script_of_all p before None bytes answer first h = tt
+script_of_all p before (Some all) bytes answer first h =
+    unless answer (IsScriptAnswer p before all answer)
+    (script_answer p before all answer
+    (subst (λ (bs : List ℕ). IsScriptAnswer p before bs answer) first h))

@@ -1,10 +1,10 @@
 -- What a call asks of its shelf: `WasAsked` (this project's own).
-use Rattle.std.specs.Prelude.{◌≡◌, ◌⊎◌, ◌+◌, ℕ, List, Option, None, Some}
+use Rattle.std.specs.Prelude.{◌≡◌, ◌⊎◌, ◌+◌, ℕ, false, List, Option, None, Some}
 use Rattle.c_ir.specs.Programs.{Program}
 use Rattle.fc_outside.specs.Contents.{contents_of}
 use Rattle.fc_outside.specs.Requests.{Requests, AskedAtMost}
 use Rattle.kernel_serve.specs.Limits.{most_file, most_script}
-use Rattle.kernel_serve.specs.Stages.{IsRead, entry_name}
+use Rattle.kernel_serve.specs.Stages.{IsRead, entry_name, is_too_much}
 use Rattle.kernel_serve.specs.Told.{Files}
 use Rattle.kernel_serve.specs.Words.{Command, report_command}
 
@@ -15,11 +15,11 @@ ReadsFile name old new = AskedAtMost name (most_file + 1) old new
 abbrev pub ReadsScript : List ℕ → Option Requests → Option Requests → Type 0
 ReadsScript name old new = AskedAtMost name (most_script + 1) old new
 
--- the named file passes all its stages, where the files are told
+-- the named file passes all its stages, and its analysis isn't too much work, where the files are told
 abbrev pub HasProgram : Option Files → Command → Type 0
 HasProgram None c = Prim.Unit {0}
 HasProgram (Some files) c = (p : Program) × (g : ℕ)
-    × IsRead (entry_name c.main) (contents_of c.file files) p g
+    × IsRead (entry_name c.main) (contents_of c.file files) p g × (is_too_much c p g ≡ false)
 
 -- the script, if one is named
 abbrev pub ReadsIfNamed : Option (List ℕ) → Option Requests → Option Requests → Type 0

@@ -1,5 +1,4 @@
--- What a call of `report_run` comes to, `Outcome`, and what it says of the program's runs, `Says`, where the
--- shelf
+-- What a call of `report_run` comes to, `Outcome`, and what it says of the program's runs, `Says`, where the shelf
 -- tells its files and the sink the bytes that it holds (this project's own).
 use Rattle.std.specs.Prelude.{◌≡◌, ◌⊎◌, ◌<◌, ◌++◌, ℕ, List, Option, Some, length, take}
 use Rattle.c_ir.specs.Programs.{Program}
@@ -7,13 +6,13 @@ use Rattle.prop_runs.specs.Numbers.{props_of, runs_of}
 use Rattle.prop_table.specs.Rows.{rows_of}
 use Rattle.fc_outside.specs.Contents.{contents_of}
 use Rattle.report_print.specs.Report.{report_text}
-use Rattle.status_history.specs.declared.history.Change.{Change}
+use Rattle.status_history.specs.declared.history.History.{History}
 use Rattle.status_rules.specs.Counting.{counted_of}
 use Rattle.status_rules.specs.Truth.{AllTrue, ExternalRight}
 use Rattle.status_rules.specs.Verdicts.{full_of}
 use Rattle.kernel_serve.specs.declared.status.Status.{Status}
 use Rattle.kernel_serve.specs.declared.status.Status.TheVariants as S
-use Rattle.kernel_serve.specs.Stages.{IsRead, Makes, Works, entry_name, history_of, report_of, script_of}
+use Rattle.kernel_serve.specs.Stages.{IsRead, Makes, Works, entry_name, report_of, script_of}
 use Rattle.kernel_serve.specs.Told.{Files}
 use Rattle.kernel_serve.specs.Words.{Command, report_command}
 
@@ -23,17 +22,15 @@ pub record TrueReport (command : Command) (files : Files) (out : List ℕ) : Typ
   pub program : Program
   pub entry : ℕ
   pub is_read : IsRead (entry_name command.main) (contents_of command.file files) program entry
-  -- the changes of the opening and of the named script, none of which is refused
-  pub changes : List Change
-  pub made : Makes program (script_of files command.script) changes
-  -- the bytes are the report that prints full recomputation over these changes
-  pub printed : out ≡ report_text (rows_of program)
-      (full_of (history_of command entry changes) (props_of program)) command.points
-  -- where the counted entries of registered emitters are locally right, each verdict of it is true of the
-  -- runs
-  pub true_of_runs : ExternalRight (runs_of program) (history_of command entry changes)
-      (counted_of (history_of command entry changes))
-      → AllTrue (props_of program) (runs_of program) (history_of command entry changes)
+  -- the history of the opening and of the named script, none of whose lines stops it
+  pub history : History
+  pub made : Makes command program entry (script_of files command.script) history
+  -- the bytes are the report that prints full recomputation of this history
+  pub printed : out ≡ report_text (rows_of program) (full_of history (props_of program)) command.points
+  -- where the counted entries of registered emitters are locally right, each verdict of it is true of the runs; those
+  -- of the program's own emitters, which are `kernel`, `rte` and `eva`, need no premise
+  pub true_of_runs : ExternalRight (runs_of program) history (counted_of history)
+      → AllTrue (props_of program) (runs_of program) history
 
 -- What a call that ends well says of runs.
 pub record SaysAtDone (words : List (List ℕ)) (files : Files) (before after : List ℕ) : Type 0 where
@@ -51,11 +48,9 @@ abbrev pub Says : List (List ℕ) → Status → Files → List ℕ → List ℕ
 Says words S.Done files before after = SaysAtDone words files before after
 Says words status files before after = Prim.Unit {0}
 
--- Clause `outcome`: what a call ends with and what the sink holds then. A fault of the shelf or want of
--- memory
--- leaves the sink as it was; at a fault of the sink a proper prefix of the report was appended; every other
--- status
--- is that of the stages, with what they write.
+-- Clause `outcome`: what a call ends with and what the sink holds then. A fault of the shelf or want of memory leaves
+-- the sink as it was; at a fault of the sink a proper prefix of the report was appended; every other status is that of
+-- the stages, with what they write.
 abbrev pub Outcome : List (List ℕ) → Status → Files → List ℕ → List ℕ → Type 0
 Outcome words S.ReadFault files before after = after ≡ before
 Outcome words S.Memory files before after = after ≡ before
@@ -65,14 +60,14 @@ Outcome words S.WriteFault files before after =
 Outcome words status files before after = (out : List ℕ) × Works words files status out
     × (after ≡ before ++ out)
 
--- Clause `complete`: words that are a command, a file that passes all its stages and, if a script is named,
--- one of
--- changes within its limit none of which is refused, give Done with the whole report, or Memory.
+-- Clause `complete`: words that are a command, a file that passes all its stages, an analysis that isn't too much work
+-- and, if a script is named, one within its limit none of whose lines stops it, give Done with the whole report, or
+-- Memory.
 abbrev pub Complete : List (List ℕ) → Status → Files → List ℕ → List ℕ → Type 0
 Complete words status files before after =
-    (c : Command) (p : Program) (g : ℕ) (cs : List Change) → report_command words ≡ Some c
-    → IsRead (entry_name c.main) (contents_of c.file files) p g → Makes p (script_of files c.script) cs
-    → (status ≡ S.Memory) ⊎ ((status ≡ S.Done) × (after ≡ before ++ report_of c p g cs))
+    (c : Command) (p : Program) (g : ℕ) (h : History) → report_command words ≡ Some c
+    → IsRead (entry_name c.main) (contents_of c.file files) p g → Makes c p g (script_of files c.script) h
+    → (status ≡ S.Memory) ⊎ ((status ≡ S.Done) × (after ≡ before ++ report_of c p h))
 
 -- Clause `unwritten`: only Done and WriteFault write.
 abbrev pub Unwritten : Option (List ℕ) → Option (List ℕ) → Status → Type 0

@@ -1,7 +1,7 @@
-pub mod Allowed
 pub mod Asked
 pub mod Headline
 pub mod Limits
+pub mod Registered
 pub mod Script
 pub mod Stages
 pub mod Status

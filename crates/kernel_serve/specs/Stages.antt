@@ -1,7 +1,6 @@
--- The work of a call, stage by stage: `Works`, what it ends with and writes where nothing outside fails and
--- there is
+-- The work of a call, stage by stage: `Works`, what it ends with and writes where nothing outside fails and there is
 -- memory. Each stage ends the call or hands on to the next one (this project's own).
-use Rattle.std.specs.Prelude.{◌≡◌, ◌≢◌, ◌⊎◌, ◌+◌, ◌<◌, ◌≤◌, ℕ, Bool, ◌&&◌, List, [], ◌∷◌, ◌++◌, map, Option, None, Some, Err, Ok, length, is_some, bytes_eq, codes, if◌then◌else◌}
+use Rattle.std.specs.Prelude.{◌≡◌, ◌≢◌, ◌⊎◌, ◌+◌, ◌<◌, ◌≤◌, ℕ, ℤ, Bool, true, false, ◌&&◌, List, [], ◌∷◌, ◌++◌, map, Option, None, Some, Err, Ok, length, is_some, bytes_eq, codes, Result, if◌then◌else◌}
 use Rattle.acsl_bind.specs.Programs.{Binds}
 use Rattle.acsl_bind.specs.declared.fault.BindFault.{BindFault}
 use Rattle.acsl_bind.specs.declared.fault.BindFault.TheVariants as B
@@ -18,6 +17,10 @@ use Rattle.c_parse.specs.Program.{IsFault, IsUnit}
 use Rattle.c_parse.specs.declared.text.ParseFault.{ParseFault}
 use Rattle.c_parse.specs.declared.text.ParseFault.TheVariants as P
 use Rattle.kernel_serve.specs.Limits.{most_file, most_script}
+use Rattle.eva_rules.specs.Entries.{eva_said}
+use Rattle.eva_run.specs.Answers.{counted_cells, is_too_large}
+use Rattle.eva_work.specs.Work.{counted_work}
+use Rattle.kernel_serve.specs.declared.status.LimitFault.{LimitFault}
 use Rattle.kernel_serve.specs.declared.status.LimitFault.TheVariants as Limit
 use Rattle.param_book.specs.Table.{opening_values}
 use Rattle.c_ir.specs.Programs.{Program}
@@ -32,9 +35,9 @@ use Rattle.prop_table.specs.Tables.{Tables}
 use Rattle.prop_table.specs.declared.fault.TableFault.TheVariants as Many
 use Rattle.report_print.specs.Report.{report_text}
 use Rattle.status_history.specs.declared.history.Change.{Change}
+use Rattle.status_history.specs.declared.history.Entry.{Entry}
 use Rattle.status_history.specs.declared.history.History.{History}
 use Rattle.status_rules.specs.Verdicts.{full_of}
-use Rattle.kernel_serve.specs.declared.status.Input.TheVariants as Input
 use Rattle.prop_runs.specs.Numbers.{props_of}
 use Rattle.prop_table.specs.Rows.{rows_of}
 use Rattle.rte_alarms.specs.Entries.{decided_said, links_said}
@@ -42,35 +45,54 @@ use Rattle.status_history.specs.declared.history.Change.TheVariants.{Emit}
 use Rattle.kernel_serve.specs.declared.status.FrontFault.TheVariants as Fault
 use Rattle.kernel_serve.specs.declared.status.Status.{Status}
 use Rattle.kernel_serve.specs.declared.status.Status.TheVariants as S
-use Rattle.kernel_serve.specs.Script.{changes_of}
+use Rattle.kernel_serve.specs.Script.{LineStop, scripted}
 use Rattle.kernel_serve.specs.Told.{Files}
 use Rattle.kernel_serve.specs.Words.{Command, report_command}
 
--- the opening: what follows of the program alone is emitted, the links of calls and then the alarms that
--- types decide
-unfoldable pub opening_of : Program → List Change
-opening_of p = map Emit (links_said p (rows_of p) 0 ++ decided_said p (rows_of p) 0)
+-- the values of the parameters at the opening, where the entry function has this number
+abbrev pub values_of : Command → ℕ → List ℤ
+values_of c g = opening_values g c.lib_entry
 
--- the history of these changes, where the entry function has this number
-abbrev pub history_of : Command → ℕ → List Change → History
-history_of c g cs = record { opening = record { values = opening_values g c.lib_entry }; changes = cs }
+-- whether the analysis would be too much work; with `--no-eva` there is none
+unfoldable pub is_too_much : Command → Program → ℕ → Bool
+is_too_much c p g = if c.no_eva then false else is_too_large p (values_of c g)
 
--- the report on a program after these changes
-unfoldable pub report_of : Command → Program → ℕ → List Change → List ℕ
-report_of c p g cs = report_text (rows_of p) (full_of (history_of c g cs) (props_of p)) c.points
+-- the refusal then
+unfoldable pub too_large : Command → Program → ℕ → LimitFault
+too_large c p g = Limit.TooLarge (counted_work p (values_of c g)) (counted_cells p)
+
+-- what the analysis says; with `--no-eva` nothing
+unfoldable pub analysed : Command → Program → ℕ → List Entry
+analysed c p g = if c.no_eva then [] else eva_said p (rows_of p) (values_of c g) 0
+
+-- the opening: what follows of the program alone is emitted, the links of calls and then the alarms that types
+-- decide; and then what the analysis says
+unfoldable pub opening_with : Program → List Entry → List Change
+opening_with p es = map Emit (links_said p (rows_of p) 0 ++ (decided_said p (rows_of p) 0 ++ es))
+
+abbrev pub opening_of : Command → Program → ℕ → List Change
+opening_of c p g = opening_with p (analysed c p g)
+
+-- the history that a call begins with: the changes of the opening over its values
+abbrev pub history_of : Command → Program → ℕ → History
+history_of c p g = record { opening = record { values = values_of c g }; changes = opening_of c p g }
+
+-- the report on a program after a history
+unfoldable pub report_of : Command → Program → History → List ℕ
+report_of c p h = report_text (rows_of p) (full_of h (props_of p)) c.points
 
 -- the call ends with this refusal, and nothing is written
 abbrev pub StopsBy : Status → Status → List ℕ → Type 0
 StopsBy refusal status out = (status ≡ refusal) × (out ≡ [])
 
 -- the report: all of it is written
-abbrev pub AtReport : Command → Program → ℕ → List Change → Status → List ℕ → Type 0
-AtReport c p g cs status out = (status ≡ S.Done) × (out ≡ report_of c p g cs)
+abbrev pub AtReport : Command → Program → History → Status → List ℕ → Type 0
+AtReport c p h status out = (status ≡ S.Done) × (out ≡ report_of c p h)
 
--- the changes of the script, after those of the opening: its lines make them, or it is refused
-abbrev pub AtChanges : Command → Program → ℕ → Option (List Change) → Status → List ℕ → Type 0
-AtChanges c p g None status out = StopsBy (S.Refused (Fault.Unbuilt Input.Script)) status out
-AtChanges c p g (Some cs) status out = AtReport c p g cs status out
+-- the script's lines: they make a history, or one of them stops the call
+abbrev pub AtLines : Command → Program → Result History LineStop → Status → List ℕ → Type 0
+AtLines c p (Err stop) status out = StopsBy (S.ScriptLine stop.line stop.why) status out
+AtLines c p (Ok h) status out = AtReport c p h status out
 
 -- the bytes of the named script
 abbrev pub script_of : Files → Option (List ℕ) → Option (List ℕ)
@@ -79,11 +101,16 @@ script_of files (Some name) = Some (contents_of name files)
 
 -- the script, if one is named: it is within its limit, or it is refused
 abbrev pub AtScript : Command → Program → ℕ → Option (List ℕ) → Status → List ℕ → Type 0
-AtScript c p g None status out = AtReport c p g (opening_of p) status out
+AtScript c p g None status out = AtReport c p (history_of c p g) status out
 AtScript c p g (Some script) status out =
     ((most_script < length script) × StopsBy (S.Limit (Limit.ScriptTooLong (most_script + 1))) status out)
-    ⊎ ((length script ≤ most_script)
-    × AtChanges c p g (changes_of (props_of p) (opening_of p) script) status out)
+    ⊎ ((length script ≤ most_script) × AtLines c p (scripted p (history_of c p g) script) status out)
+
+-- the work of the analysis: it is within its limit, or the file is refused
+abbrev pub AtWork : Command → Program → ℕ → Option (List ℕ) → Status → List ℕ → Type 0
+AtWork c p g script status out =
+    ((is_too_much c p g ≡ true) × StopsBy (S.Limit (too_large c p g)) status out)
+    ⊎ ((is_too_much c p g ≡ false) × AtScript c p g script status out)
 
 -- what comes after the file's own stages, for its program and the number of its entry function
 abbrev pub Next : Type 1
@@ -164,7 +191,7 @@ entry_name (Some name) = name
 
 -- what comes after the file, for its program and its entry function
 abbrev pub after_file : Files → Command → Next
-after_file files c p g status out = AtScript c p g (script_of files c.script) status out
+after_file files c p g status out = AtWork c p g (script_of files c.script) status out
 
 -- the files of a command
 abbrev pub AtFile : Files → Command → Status → List ℕ → Type 0
@@ -208,8 +235,8 @@ pub record IsRead (name file : List ℕ) (p : Program) (g : ℕ) : Type 0 where
   pub noted : AreAnnots file annots (notes_of tokens)
   pub typed : IsTypedText name items annots p g
 
--- the changes of the opening and of the script, if one is named
-abbrev pub Makes : Program → Option (List ℕ) → List Change → Type 0
-Makes p None cs = cs ≡ opening_of p
-Makes p (Some script) cs = (length script ≤ most_script)
-    × (changes_of (props_of p) (opening_of p) script ≡ Some cs)
+-- the analysis isn't too much work, and this is the history of the opening and of the script, if one is named
+abbrev pub Makes : Command → Program → ℕ → Option (List ℕ) → History → Type 0
+Makes c p g None h = (is_too_much c p g ≡ false) × (h ≡ history_of c p g)
+Makes c p g (Some script) h = (is_too_much c p g ≡ false) × (length script ≤ most_script)
+    × (scripted p (history_of c p g) script ≡ Ok h)

@@ -11,10 +11,13 @@ use Rattle.c_parse.specs.declared.text.ParseFault.{ParseFault}
 use Rattle.c_parse.specs.declared.text.ParseFault.TheVariants as P
 use Rattle.c_types.specs.declared.fault.TypeFault.{TypeFault}
 use Rattle.c_types.specs.declared.fault.TypeFault.TheVariants as T
-use Rattle.kernel_serve.specs.declared.status.Input.TheVariants as Input
 use Rattle.kernel_serve.specs.declared.status.FrontFault.TheVariants as Fault
+use Rattle.status_rules.specs.declared.refusals.Refusal.{Refusal}
+use Rattle.status_rules.specs.declared.refusals.Refusal.TheVariants as R
 use Rattle.kernel_serve.specs.declared.status.LimitFault.{LimitFault}
 use Rattle.kernel_serve.specs.declared.status.LimitFault.TheVariants as Limit
+use Rattle.kernel_serve.specs.declared.status.LineFault.{LineFault}
+use Rattle.kernel_serve.specs.declared.status.LineFault.TheVariants as Line
 use Rattle.kernel_serve.specs.declared.status.Status.{Status}
 use Rattle.kernel_serve.specs.declared.status.Status.TheVariants as S
 
@@ -27,6 +30,7 @@ exit_status S.ReadFault = 3
 exit_status S.WriteFault = 4
 exit_status S.Memory = 5
 exit_status (S.Limit fault) = 6
+exit_status (S.ScriptLine line why) = 7
 
 -- a name and a number, on a line
 abbrev pub with_number : List ℕ → ℕ → List ℕ
@@ -79,6 +83,31 @@ limit_text (Limit.FileTooLong count) = with_number (codes "limit: FileTooLong ")
 limit_text (Limit.ScriptTooLong count) = with_number (codes "limit: ScriptTooLong ") count
 limit_text (Limit.TooManyCells count) = with_number (codes "limit: TooManyCells ") count
 limit_text (Limit.TooManyProps count) = with_number (codes "limit: TooManyProps ") count
+limit_text (Limit.TooLarge work cells) = codes "limit: TooLarge " ++ (decimal work ++ with_number (codes " ") cells)
+
+-- the names of refusals
+abbrev pub refusal_name : Refusal → List ℕ
+refusal_name R.UnknownEmitter = codes "UnknownEmitter"
+refusal_name R.ReservedEmitter = codes "ReservedEmitter"
+refusal_name R.UnknownProperty = codes "UnknownProperty"
+refusal_name (R.UnknownHyp place) = codes "UnknownHyp"
+refusal_name (R.TooManyHyps count) = codes "TooManyHyps"
+refusal_name (R.FutureVersion version) = codes "FutureVersion"
+refusal_name R.OutOfRange = codes "OutOfRange"
+refusal_name R.NameTaken = codes "NameTaken"
+refusal_name (R.TooManyEmitters count) = codes "TooManyEmitters"
+refusal_name (R.HistoryFull count) = codes "HistoryFull"
+refusal_name (R.EventsFull count) = codes "EventsFull"
+refusal_name R.Memory = codes "Memory"
+
+-- why a line of a script stops it
+abbrev pub line_fault_name : LineFault → List ℕ
+line_fault_name Line.Form = codes "Form"
+line_fault_name (Line.Refused why) = refusal_name why
+line_fault_name Line.TooLarge = codes "TooLarge"
+
+unfoldable pub script_text : ℕ → LineFault → List ℕ
+script_text line why = with_name (codes "script line " ++ (decimal line ++ codes ": ")) (line_fault_name why)
 
 -- the line that the program writes to standard error; none where all went well
 abbrev pub fault_text : Status → List ℕ
@@ -88,10 +117,9 @@ fault_text (S.Refused (Fault.Parse fault)) = parse_text fault
 fault_text (S.Refused (Fault.Acsl fault)) = acsl_text fault
 fault_text (S.Refused (Fault.Types fault)) = types_text fault
 fault_text (S.Refused (Fault.Bind fault)) = bind_text fault
-fault_text (S.Refused (Fault.Unbuilt Input.File)) = codes "refused: file Unbuilt\n"
-fault_text (S.Refused (Fault.Unbuilt Input.Script)) = codes "refused: script Unbuilt\n"
 fault_text S.Usage = codes "usage\n"
 fault_text S.ReadFault = codes "read fault\n"
 fault_text S.WriteFault = codes "write fault\n"
 fault_text S.Memory = codes "out of memory\n"
 fault_text (S.Limit fault) = limit_text fault
+fault_text (S.ScriptLine line why) = script_text line why

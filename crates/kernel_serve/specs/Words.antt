@@ -1,5 +1,4 @@
--- The words of a command (this project's own): `report FILE`, and then, each if it is wanted and in this
--- order,
+-- The words of a command (this project's own): `report FILE`, and then, each if it is wanted and in this order,
 -- `--script EVENTS`, `--no-eva`, `--main NAME`, `--lib-entry` and `--points`.
 use Rattle.std.specs.Prelude.{ℕ, Bool, true, false, not, ◌&&◌, ◌==◌, nat_le, List, [], ◌∷◌, length, Option, None, Some, codes, bytes_eq, if◌then◌else◌}
 use Rattle.std.specs.Option.{option_and_then}
@@ -48,13 +47,13 @@ take_flag option (word ∷ rest) =
     if bytes_eq word option then record { value = true; rest = rest } else record
     { value = false; rest = word ∷ rest }
 
--- the command that words are: the names of the file and of the script, that of the entry function, whether
--- the run
--- begins like a library call, and whether the properties of kind Dead are shown
+-- the command that words are: the names of the file and of the script, that of the entry function, whether nothing is
+-- analysed, whether the run begins like a library call, and whether the properties of kind Dead are shown
 pub record Command : Type 0 where
   pub file : List ℕ
   pub script : Option (List ℕ)
   pub main : Option (List ℕ)
+  pub no_eva : Bool
   pub lib_entry : Bool
   pub points : Bool
 
@@ -63,24 +62,23 @@ abbrev pub if_last : Command → List (List ℕ) → Option Command
 if_last c [] = Some c
 if_last c (word ∷ rest) = None
 
-abbrev pub after_main : List ℕ → Option (List ℕ) → Taken (Option (List ℕ)) → Option Command
-after_main file script m =
+abbrev pub after_main : List ℕ → Option (List ℕ) → Bool → Taken (Option (List ℕ)) → Option Command
+after_main file script no_eva m =
     let lib = take_flag (codes "--lib-entry") m.rest in
     let points = take_flag (codes "--points") lib.rest in
     if_last (record {
       file = file;
       script = script;
       main = m.value;
+      no_eva = no_eva;
       lib_entry = lib.value;
-      points =
-          points.value;
+      points = points.value;
     }) points.rest
 
--- `--no-eva` has no effect so far
 abbrev pub after_script : List ℕ → Taken (Option (List ℕ)) → Option Command
 after_script file s =
-    option_and_then (after_main file s.value)
-    (take_value (codes "--main") is_name (take_flag (codes "--no-eva") s.rest).rest)
+    let no_eva = take_flag (codes "--no-eva") s.rest in
+    option_and_then (after_main file s.value no_eva.value) (take_value (codes "--main") is_name no_eva.rest)
 
 abbrev pub options_of : List ℕ → List (List ℕ) → Option Command
 options_of file words = option_and_then (after_script file) (take_value (codes "--script") is_value words)

@@ -4,18 +4,19 @@ ghost use Rattle.std.specs.Prelude.{◌≡◌, ◌≤◌, [], IfErr, IfOk, IfSom
 ghost use Rattle.std.specs.Result.{IsErrOf};
 ghost use Rattle.fc_outside.specs.Causes.{Rose};
 ghost use Rattle.fc_outside.specs.Contents.{told_contents};
-ghost use Rattle.kernel_serve.specs.Allowed.{registered};
+ghost use Rattle.prop_runs.specs.Numbers.{props_of};
 ghost use Rattle.kernel_serve.specs.Asked.{ReadsFile, ReadsScript};
-ghost use Rattle.kernel_serve.specs.Script.{changes_of, lines_of, with_lines};
-ghost use Rattle.kernel_serve.specs.inner.Steps.{GivesChanges, HasTable, IsFileAnswer, IsScriptAnswer, IsStop, UnlessReadFault};
+ghost use Rattle.kernel_serve.specs.Limits.{most_script};
+ghost use Rattle.kernel_serve.specs.Script.{lines_of, with_lines};
+ghost use Rattle.kernel_serve.specs.inner.Keeping.{IsFirst};
+ghost use Rattle.kernel_serve.specs.inner.Steps.{GivesHistory, HasTable, IsFileAnswer, IsScriptAnswer, IsStop, UnlessReadFault};
 
-use crate::accepted::Accepted;
+use crate::accepted::{Accepted, Stopped};
 use crate::front::{Entered, MOST_FILE, program_in};
 use crate::lines::first_line;
 use crate::status::{LimitFault, Status};
-use c_ir::PropTable;
 use fc_outside::{ReadError, Shelf, read_all};
-use status_history::Changes;
+use status_history::History;
 use std::alloc::Global;
 
 /// The most bytes of a script.
@@ -50,18 +51,19 @@ where
     }
 }
 
-/// The changes so far and those of the named script; refused where its bytes are no script or
-/// one of its changes is refused.
-pub(crate) fn changes_in<F: Shelf>(
+/// The history of the named script after another one; refused where its bytes are too many, or one of its lines stops
+/// it.
+pub(crate) fn history_in<F: Shelf>(
     alloc: Global,
     shelf: &mut F,
     name: &str,
-    props: &PropTable,
-    before: Changes,
-) -> Result<Changes, Status>
+    entered: &Entered,
+    before: History,
+) -> Result<History, Status>
 where
-    requires { registered before ≡ [] }
-    ensures told { IfSome (told_contents name.now (F.files shelf.old)) (λ bytes. UnlessReadFault result (IsScriptAnswer props.now before bytes result)) }
+    requires table { entered.now.props ≡ props_of entered.now.program }
+    requires first { IsFirst before }
+    ensures told { IfSome (told_contents name.now (F.files shelf.old)) (λ bytes. UnlessReadFault result (IsScriptAnswer entered.now.program before bytes result)) }
     ensures stops { IfErr result IsStop }
     ensures asked { ReadsScript name.now (F.asked shelf.old) (F.asked shelf.new) }
     ensures files { F.files shelf.new ≡ F.files shelf.old }
@@ -74,51 +76,57 @@ where
         Err(ReadError::Fault) => return Err(Status::ReadFault),
         Err(ReadError::Memory) => return Err(Status::Memory),
     };
-    match changes_of(alloc, props, before, bytes.as_slice()) {
-        Ok(changes) => Ok(changes),
+    match scripted(alloc, entered, before, bytes.as_slice()) {
+        Ok(history) => Ok(history),
         Err(status) => Err(status),
     }
 }
 
-/// The changes so far and those of a script.
-#[tactic(auto, unfolding(crate::specs::Script::changes_of))]
-fn changes_of(
+/// The history of a script after another one.
+#[tactic(auto, unfolding(crate::specs::Script::scripted))]
+fn scripted(
     alloc: Global,
-    props: &PropTable,
-    before: Changes,
+    entered: &Entered,
+    before: History,
     text: &[u8],
-) -> Result<Changes, Status>
-    requires { registered before ≡ [] }
-    ensures { IsScriptAnswer props.now before text.now result }
+) -> Result<History, Status>
+    requires table { entered.now.props ≡ props_of entered.now.program }
+    requires first { IsFirst before }
+    ensures { IsScriptAnswer entered.now.program before text.now result }
 {
     if text.len() > MOST_SCRIPT {
         return Err(Status::Limit(LimitFault::ScriptTooLong(16_777_217)));
     }
-    match changes_of_lines(alloc, props, before, text) {
-        Ok(changes) => Ok(changes),
+    match history_of_lines(alloc, entered, before, text) {
+        Ok(history) => Ok(history),
         Err(status) => Err(status),
     }
 }
 
-/// The changes so far and those of the lines of a text, in order.
-fn changes_of_lines(
+/// The history of the lines of a text, in order, after another one.
+fn history_of_lines(
     alloc: Global,
-    props: &PropTable,
-    before: Changes,
+    entered: &Entered,
+    before: History,
     text: &[u8],
-) -> Result<Changes, Status>
-    requires { registered before ≡ [] }
-    ensures { GivesChanges (with_lines props.now before (lines_of text.now)) result }
+) -> Result<History, Status>
+    requires table { entered.now.props ≡ props_of entered.now.program }
+    requires first { IsFirst before }
+    requires length { length text.now ≤ most_script }
+    ensures { GivesHistory (with_lines entered.now.program 1 before (lines_of text.now)) result }
 {
     let mut accepted = Accepted::new(alloc, before);
     let mut rest = Some(text);
+    let mut number = 1;
     'lines: while let Some(text) = rest {
         let (line, more) = first_line(text);
-        accepted = match accepted.with_line(props, line) {
+        accepted = match accepted.with_line(alloc, entered, line) {
             Ok(accepted) => accepted,
-            Err(fault) => return Err(fault),
+            Err(Stopped::At(why)) => return Err(Status::ScriptLine { line: number, why }),
+            Err(Stopped::Memory) => return Err(Status::Memory),
         };
         rest = more;
+        number += 1;
     }
-    Ok(accepted.into_changes())
+    Ok(accepted.into_history())
 }

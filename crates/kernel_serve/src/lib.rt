@@ -11,4 +11,4 @@ mod status;
 mod words;
 
 pub use batch::report_run;
-pub use status::{FrontFault, Input, LimitFault, Status, fault_line};
+pub use status::{FrontFault, LimitFault, LineFault, Status, fault_line};

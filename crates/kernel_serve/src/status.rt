@@ -1,7 +1,7 @@
 //! How a call ends.
 
 ghost use Rattle.std.specs.Prelude.{◌≡◌, ◌++◌, IfOk, codes};
-ghost use Rattle.kernel_serve.specs.Status.{exit_status, fault_text, lex_text, parse_text, acsl_text, types_text, bind_text, limit_text, with_name, with_number};
+ghost use Rattle.kernel_serve.specs.Status.{exit_status, fault_text, lex_text, parse_text, acsl_text, types_text, bind_text, limit_text, line_fault_name, refusal_name, script_text, with_name, with_number};
 
 use acsl_bind::BindFault;
 use acsl_read::AcslFault;
@@ -9,16 +9,8 @@ use c_lex::LexFault;
 use c_parse::ParseFault;
 use c_types::TypeFault;
 use fc_base::Name;
+use status_rules::Refusal;
 use std::alloc::{AllocError, Global};
-
-/// One of the two files that a command names.
-#[derive(Clone, Copy, Debug, PartialEq, Eq)]
-pub enum Input {
-    /// The program's text.
-    File,
-    /// The script of events.
-    Script,
-}
 
 /// Why a file that could be read is refused.
 #[derive(Debug, Drop)]
@@ -35,8 +27,6 @@ pub enum FrontFault {
     /// A note of the file is in breach of the rules of annotations (ACSL manual, function contracts, loop annotations,
     /// terms and predicates); the fault is never its Memory.
     Bind(BindFault),
-    /// It isn't of the forms that are built so far.
-    Unbuilt(Input),
 }
 
 /// Which limit an input passes, with the limit plus one or the count.
@@ -50,6 +40,19 @@ pub enum LimitFault {
     TooManyCells(u32),
     /// The program has more than 65,536 properties; how many, or 4,294,967,295 where there are more than that.
     TooManyProps(u32),
+    /// The analysis would be too much: its work times the program's cells is more than 200,000,000.
+    TooLarge { work: u64, cells: u32 },
+}
+
+/// Why a line of a script stops it.
+#[derive(Clone, Copy, Debug, PartialEq, Eq)]
+pub enum LineFault {
+    /// It is of no form that a script's lines have.
+    Form,
+    /// Its change is refused, or the entries of its run are; the reason is never want of memory.
+    Refused(Refusal),
+    /// The analysis that it asks for would be too much: its work times the program's cells is more than 200,000,000.
+    TooLarge,
 }
 
 /// How a call ended.
@@ -69,11 +72,13 @@ pub enum Status {
     Memory,
     /// An input passes a limit.
     Limit(LimitFault),
+    /// A line of the script, counted from 1, stops it.
+    ScriptLine { line: u32, why: LineFault },
 }
 
 impl Status {
     /// The exit status of the program: 0 for Done, 1 for Refused, 2 for Usage, 3 for ReadFault, 4 for
-    /// WriteFault, 5 for Memory and 6 for Limit (this project's own).
+    /// WriteFault, 5 for Memory, 6 for Limit and 7 for ScriptLine (this project's own).
     pub fn exit_status(&self) -> u8
         ensures { result ≡ exit_status self.now }
     {
@@ -85,13 +90,14 @@ impl Status {
             Status::WriteFault => 4,
             Status::Memory => 5,
             Status::Limit(_) => 6,
+            Status::ScriptLine { .. } => 7,
         }
     }
 }
 
 /// The line that says how a call ended, with its LF: a refusal with its stage, its name, the token's text where
-/// it keeps one, and its place, an offset from 0 or a line from 1; a limit with its name and the count. No bytes
-/// for Done (this project's own).
+/// it keeps one, and its place, an offset from 0 or a line from 1; a limit with its name and its counts; a line of the
+/// script with its number and the name of what stops it. No bytes for Done (this project's own).
 pub fn fault_line(alloc: Global, status: &Status) -> Result<Vec<u8>, AllocError>
     ensures { IfOk result (λ line. line.items ≡ fault_text status.now) }
 {
@@ -102,17 +108,12 @@ pub fn fault_line(alloc: Global, status: &Status) -> Result<Vec<u8>, AllocError>
         Status::Refused(FrontFault::Acsl(fault)) => acsl_line(alloc, fault),
         Status::Refused(FrontFault::Types(fault)) => types_line(alloc, fault),
         Status::Refused(FrontFault::Bind(fault)) => bind_line(alloc, fault),
-        Status::Refused(FrontFault::Unbuilt(Input::File)) => {
-            line(alloc, "refused: file Unbuilt\n")
-        }
-        Status::Refused(FrontFault::Unbuilt(Input::Script)) => {
-            line(alloc, "refused: script Unbuilt\n")
-        }
         Status::Usage => line(alloc, "usage\n"),
         Status::ReadFault => line(alloc, "read fault\n"),
         Status::WriteFault => line(alloc, "write fault\n"),
         Status::Memory => line(alloc, "out of memory\n"),
         Status::Limit(fault) => limit_line(alloc, *fault),
+        Status::ScriptLine { line, why } => script_line(alloc, *line, *why),
     }
 }
 
@@ -190,8 +191,15 @@ fn acsl_line(alloc: Global, fault: &AcslFault) -> Result<Vec<u8>, AllocError>
 fn named_line(alloc: Global, start: &str, name: &Name) -> Result<Vec<u8>, AllocError>
     ensures { IfOk result (λ line. line.items ≡ with_name start.now name.now) }
 {
+    worded_line(alloc, start, name.as_str())
+}
+
+/// A line that ends with a word.
+fn worded_line(alloc: Global, start: &str, word: &str) -> Result<Vec<u8>, AllocError>
+    ensures { IfOk result (λ line. line.items ≡ with_name start.now word.now) }
+{
     let mut text = line(alloc, start)?;
-    text.extend_from_slice(name.as_str().as_bytes())?;
+    text.extend_from_slice(word.as_bytes())?;
     text.extend_from_slice("\n".as_bytes())?;
     Ok(text)
 }
@@ -236,6 +244,46 @@ fn limit_line(alloc: Global, fault: LimitFault) -> Result<Vec<u8>, AllocError>
         LimitFault::ScriptTooLong(count) => format!(in alloc; "limit: ScriptTooLong {count}\n")?,
         LimitFault::TooManyCells(count) => format!(in alloc; "limit: TooManyCells {count}\n")?,
         LimitFault::TooManyProps(count) => format!(in alloc; "limit: TooManyProps {count}\n")?,
+        LimitFault::TooLarge { work, cells } => {
+            format!(in alloc; "limit: TooLarge {work} {cells}\n")?
+        }
     };
     line(alloc, text.as_str())
+}
+
+#[tactic(auto, unfolding(crate::specs::Status::script_text))]
+fn script_line(alloc: Global, number: u32, why: LineFault) -> Result<Vec<u8>, AllocError>
+    ensures { IfOk result (λ line. line.items ≡ script_text number why) }
+{
+    let start = format!(in alloc; "script line {number}: ")?;
+    worded_line(alloc, start.as_str(), line_fault_name(why))
+}
+
+fn line_fault_name(why: LineFault) -> &'static str
+    ensures { result.now ≡ line_fault_name why }
+{
+    match why {
+        LineFault::Form => "Form",
+        LineFault::Refused(why) => refusal_name(why),
+        LineFault::TooLarge => "TooLarge",
+    }
+}
+
+fn refusal_name(why: Refusal) -> &'static str
+    ensures { result.now ≡ refusal_name why }
+{
+    match why {
+        Refusal::UnknownEmitter => "UnknownEmitter",
+        Refusal::ReservedEmitter => "ReservedEmitter",
+        Refusal::UnknownProperty => "UnknownProperty",
+        Refusal::UnknownHyp(_) => "UnknownHyp",
+        Refusal::TooManyHyps(_) => "TooManyHyps",
+        Refusal::FutureVersion(_) => "FutureVersion",
+        Refusal::OutOfRange => "OutOfRange",
+        Refusal::NameTaken => "NameTaken",
+        Refusal::TooManyEmitters(_) => "TooManyEmitters",
+        Refusal::HistoryFull(_) => "HistoryFull",
+        Refusal::EventsFull(_) => "EventsFull",
+        Refusal::Memory => "Memory",
+    }
 }

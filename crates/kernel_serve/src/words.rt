@@ -12,6 +12,8 @@ pub(crate) struct Command<'w> {
     pub(crate) script: Option<&'w str>,
     /// The name of the entry function, where it isn't `main`.
     pub(crate) main: Option<&'w str>,
+    /// Whether nothing is analysed.
+    pub(crate) no_eva: bool,
     pub(crate) lib_entry: bool,
     pub(crate) points: bool,
 }
@@ -53,19 +55,20 @@ fn after_script<'w>(
 ) -> Option<Command<'w>>
     ensures { IsCommand result (after_script file.now (record { value = option_map (λ w. w.now) script.entry; rest = map string_bytes words.now })) }
 {
-    let (_, words) = take_flag(words, "--no-eva");
+    let (no_eva, words) = take_flag(words, "--no-eva");
     let (main, words) = take_value(words, "--main", Values::Names)?;
-    after_main(file, script, main, words)
+    after_main(file, script, no_eva, main, words)
 }
 
 /// The command with these options after that of the entry function.
 fn after_main<'w>(
     file: &'w str,
     script: Option<&'w str>,
+    no_eva: bool,
     main: Option<&'w str>,
     words: &'w [String],
 ) -> Option<Command<'w>>
-    ensures { IsCommand result (after_main file.now (option_map (λ w. w.now) script.entry) (record { value = option_map (λ w. w.now) main.entry; rest = map string_bytes words.now })) }
+    ensures { IsCommand result (after_main file.now (option_map (λ w. w.now) script.entry) no_eva (record { value = option_map (λ w. w.now) main.entry; rest = map string_bytes words.now })) }
 {
     let (lib_entry, words) = take_flag(words, "--lib-entry");
     let (points, words) = take_flag(words, "--points");
@@ -73,6 +76,7 @@ fn after_main<'w>(
         file,
         script,
         main,
+        no_eva,
         lib_entry,
         points,
     };

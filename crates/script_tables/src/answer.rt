@@ -6,7 +6,7 @@ use event_script::{Analyser, Script, ScriptFault, Wanted};
 use status_history::{Change, Entry};
 use std::alloc::{AllocError, Global};
 
-/// The version of each entry.
+/// The version that stands for a missing one.
 const VERSION: u32 = 9;
 
 /// What an entry says: its emitter, its status, its property, its version, and its hypotheses.

@@ -1,5 +1,5 @@
 -- What the steps of a call find: the code's side.
-use Rattle.std.specs.Prelude.{◌≡◌, ◌⊎◌, ◌+◌, ◌<◌, ◌≤◌, ℕ, List, [], Option, Some, None, Result, Ok, Err, IfOk, IfErr, length}
+use Rattle.std.specs.Prelude.{◌≡◌, ◌⊎◌, ◌+◌, ◌<◌, ◌≤◌, ℕ, true, false, List, [], Option, Some, None, Result, Ok, Err, IfOk, IfErr, length}
 use Rattle.std.specs.Global.{Vec}
 use Rattle.acsl_bind.specs.declared.fault.BindFault.{BindFault}
 use Rattle.acsl_bind.specs.declared.fault.BindFault.TheVariants as B
@@ -8,7 +8,6 @@ use Rattle.acsl_read.specs.declared.text.AcslFault.TheVariants as A
 use Rattle.c_ast.specs.declared.annot.Annot.{Annot}
 use Rattle.c_ast.specs.declared.unit.Item.{Item}
 use Rattle.c_ir.specs.Programs.{Program}
-use Rattle.c_ir.specs.Props.{Props}
 use Rattle.c_types.specs.declared.fault.TypeFault.{TypeFault}
 use Rattle.c_types.specs.declared.fault.TypeFault.TheVariants as T
 use Rattle.c_lex.specs.declared.fault.LexFault.{LexFault}
@@ -17,18 +16,23 @@ use Rattle.c_parse.specs.declared.text.ParseFault.{ParseFault}
 use Rattle.c_parse.specs.declared.text.ParseFault.TheVariants as P
 use Rattle.prop_runs.specs.Numbers.{props_of}
 use Rattle.fc_outside.specs.Contents.{contents_of}
-use Rattle.status_history.specs.declared.history.Change.{Change}
-use Rattle.kernel_serve.specs.declared.status.Input.TheVariants as Input
+use Rattle.status_history.specs.declared.history.Entry.{Entry}
+use Rattle.status_history.specs.declared.history.History.{History}
 use Rattle.kernel_serve.specs.declared.status.FrontFault.TheVariants as Fault
 use Rattle.kernel_serve.specs.declared.status.LimitFault.TheVariants as Limit
 use Rattle.kernel_serve.specs.declared.status.Status.{Status}
 use Rattle.kernel_serve.specs.declared.status.Status.TheVariants as S
+use Rattle.event_script.specs.declared.script.Analyser.{Analyser}
+use Rattle.kernel_serve.specs.declared.accepted.Stopped.{Stopped}
+use Rattle.kernel_serve.specs.declared.accepted.Stopped.TheVariants as Stop
 use Rattle.kernel_serve.specs.declared.front.Entered.{Entered}
+use Rattle.kernel_serve.specs.declared.status.LineFault.{LineFault}
+use Rattle.kernel_serve.specs.declared.status.LineFault.TheVariants as Line
 use Rattle.fc_outside.specs.Requests.{Requests}
 use Rattle.kernel_serve.specs.Asked.{ReadsIfNamed}
 use Rattle.kernel_serve.specs.Limits.{most_script}
-use Rattle.kernel_serve.specs.Script.{changes_of}
-use Rattle.kernel_serve.specs.Stages.{AtEntry, AtFile, AtLength, AtTypes, Enters, IsBound, IsRead, IsTypedText, Makes, Next, entry_name, opening_of, report_of, script_of}
+use Rattle.kernel_serve.specs.Script.{LineStop, has_too_much, said_by, scripted}
+use Rattle.kernel_serve.specs.Stages.{AtEntry, AtFile, AtLength, AtTypes, Enters, IsBound, IsRead, IsTypedText, Makes, Next, analysed, entry_name, history_of, is_too_much, report_of, script_of, too_large}
 use Rattle.kernel_serve.specs.Told.{Files}
 use Rattle.kernel_serve.specs.Words.{Command}
 
@@ -43,6 +47,7 @@ IsStop S.ReadFault = Prim.Unit {0}
 IsStop S.Memory = Prim.Unit {0}
 IsStop (S.Refused fault) = Prim.Unit {0}
 IsStop (S.Limit fault) = Prim.Unit {0}
+IsStop (S.ScriptLine line why) = Prim.Unit {0}
 IsStop status = ⊥
 
 -- how a call ends by a fault of tokens, of a grammar, of types and of binding
@@ -153,46 +158,69 @@ pub record IsFileAnswer (name file : List ℕ) (answer : Result Entered Status) 
   pub stops : IfErr answer (StopsInFile name file)
   pub only : (p : Program) (g : ℕ) → IsRead name file p g → OnlyEntered p g answer
 
--- what the script's stages answer, after the changes so far
-abbrev pub IsScriptAnswer : Props → List Change → List ℕ → Result (List Change) Status → Type 0
-IsScriptAnswer t before script (Ok cs) = (length script ≤ most_script)
-    × (changes_of t before script ≡ Some cs)
-IsScriptAnswer t before script (Err S.Memory) = Prim.Unit {0}
-IsScriptAnswer t before script (Err (S.Refused fault)) =
-    (S.Refused fault ≡ S.Refused (Fault.Unbuilt Input.Script)) × (length script ≤ most_script)
-    × (changes_of t before script ≡ None)
-IsScriptAnswer t before script (Err (S.Limit fault)) =
+-- what the script's stages answer, after a history
+abbrev pub IsScriptAnswer : Program → History → List ℕ → Result History Status → Type 0
+IsScriptAnswer p before script (Ok h) = (length script ≤ most_script) × (scripted p before script ≡ Ok h)
+IsScriptAnswer p before script (Err S.Memory) = Prim.Unit {0}
+IsScriptAnswer p before script (Err (S.ScriptLine line why)) = (length script ≤ most_script)
+    × (scripted p before script ≡ Err (record { line = line; why = why }))
+IsScriptAnswer p before script (Err (S.Limit fault)) =
     (S.Limit fault ≡ S.Limit (Limit.ScriptTooLong (most_script + 1))) × (most_script < length script)
-IsScriptAnswer t before script (Err status) = ⊥
+IsScriptAnswer p before script (Err status) = ⊥
 
--- the changes of the opening and of the script, if one is named
-abbrev pub IsChangesAnswer : Program → Option (List ℕ) → Result (List Change) Status → Type 0
-IsChangesAnswer p None (Ok cs) = cs ≡ opening_of p
-IsChangesAnswer p None (Err S.Memory) = Prim.Unit {0}
-IsChangesAnswer p None (Err status) = ⊥
-IsChangesAnswer p (Some script) answer = IsScriptAnswer (props_of p) (opening_of p) script answer
+-- what the analysis answers, or that it is too much work
+abbrev pub IsWorkAnswer : Command → Program → ℕ → Result (List Entry) Status → Type 0
+IsWorkAnswer c p g (Ok es) = (is_too_much c p g ≡ false) × (es ≡ analysed c p g)
+IsWorkAnswer c p g (Err S.Memory) = Prim.Unit {0}
+IsWorkAnswer c p g (Err (S.Limit fault)) = (is_too_much c p g ≡ true) × (fault ≡ too_large c p g)
+IsWorkAnswer c p g (Err status) = ⊥
 
-abbrev pub ToldChanges : Option Files → Option (List ℕ) → Program → Result (List Change) Status → Type 0
-ToldChanges None name p answer = Prim.Unit {0}
-ToldChanges (Some files) name p answer = UnlessReadFault answer
-    (IsChangesAnswer p (script_of files name) answer)
+-- the history of the opening and of the script, if one is named
+abbrev pub IsMoreAnswer : Command → Program → ℕ → Option (List ℕ) → Result History Status → Type 0
+IsMoreAnswer c p g None (Ok h) = h ≡ history_of c p g
+IsMoreAnswer c p g None (Err S.Memory) = Prim.Unit {0}
+IsMoreAnswer c p g None (Err status) = ⊥
+IsMoreAnswer c p g (Some script) answer = IsScriptAnswer p (history_of c p g) script answer
 
--- the script, if one is named, is read; or nothing is asked for
-abbrev pub ReadsAtMost : Option (List ℕ) → Option Requests → Option Requests → Type 0
-ReadsAtMost name old new = (new ≡ old) ⊎ ReadsIfNamed name old new
+-- this history, or the analysis is too much work
+abbrev pub IsHistoryAnswer : Command → Program → ℕ → Option (List ℕ) → Result History Status → Type 0
+IsHistoryAnswer c p g script answer =
+    ((is_too_much c p g ≡ true) × (answer ≡ Err (S.Limit (too_large c p g))))
+    ⊎ ((answer ≡ Err S.Memory) ⊎ ((is_too_much c p g ≡ false) × IsMoreAnswer c p g script answer))
 
--- the changes that lines make; where they are refused they make none
-abbrev pub GivesChanges : Option (List Change) → Result (List Change) Status → Type 0
-GivesChanges wanted (Ok cs) = wanted ≡ Some cs
-GivesChanges wanted (Err S.Memory) = Prim.Unit {0}
-GivesChanges wanted (Err (S.Refused fault)) = (S.Refused fault ≡ S.Refused (Fault.Unbuilt Input.Script))
-    × (wanted ≡ None)
-GivesChanges wanted (Err status) = ⊥
+abbrev pub ToldHistory : Option Files → Command → Entered → Result History Status → Type 0
+ToldHistory None c e answer = Prim.Unit {0}
+ToldHistory (Some files) c e answer =
+    UnlessReadFault answer (IsHistoryAnswer c e.program e.entry (script_of files c.script) answer)
+
+-- the script is asked for only where the analysis isn't too much work
+abbrev pub AsksMore : Command → Entered → Option Requests → Option Requests → Type 0
+AsksMore c e old new = (new ≡ old) ⊎ ((is_too_much c e.program e.entry ≡ false) × ReadsIfNamed c.script old new)
+
+-- what a line comes to, or want of memory
+abbrev pub GivesLine : Result History LineFault → Result History Stopped → Type 0
+GivesLine wanted (Ok h) = wanted ≡ Ok h
+GivesLine wanted (Err Stop.Memory) = Prim.Unit {0}
+GivesLine wanted (Err (Stop.At why)) = wanted ≡ Err why
+
+-- what an analyser says, unless it has too much work
+abbrev pub GivesEntries : Program → History → Analyser → Result (List Entry) Stopped → Type 0
+GivesEntries p h a (Ok es) = (has_too_much p h a ≡ false) × (es ≡ said_by p h a)
+GivesEntries p h a (Err Stop.Memory) = Prim.Unit {0}
+GivesEntries p h a (Err (Stop.At why)) = (has_too_much p h a ≡ true) × (why ≡ Line.TooLarge)
+
+-- what the lines of a script come to
+abbrev pub GivesHistory : Result History LineStop → Result History Status → Type 0
+GivesHistory wanted (Ok h) = wanted ≡ Ok h
+GivesHistory wanted (Err S.Memory) = Prim.Unit {0}
+GivesHistory wanted (Err (S.ScriptLine line why)) = wanted ≡ Err (record { line = line; why = why })
+GivesHistory wanted (Err status) = ⊥
 
 -- the stages of a command stop
 abbrev pub StopsAtFile : Files → Command → Status → Type 0
 StopsAtFile files c (S.Refused fault) = AtFile files c (S.Refused fault) []
 StopsAtFile files c (S.Limit fault) = AtFile files c (S.Limit fault) []
+StopsAtFile files c (S.ScriptLine line why) = AtFile files c (S.ScriptLine line why) []
 StopsAtFile files c status = Prim.Unit {0}
 
 -- an answer where a report is to be made
@@ -205,5 +233,5 @@ OnlyText text (Err status) = ⊥
 -- an answer for files that pass all their stages
 abbrev pub OnlyReport : Files → Command → Result (Vec ℕ) Status → Type 0
 OnlyReport files c answer =
-    (p : Program) (g : ℕ) (cs : List Change) → IsRead (entry_name c.main) (contents_of c.file files) p g
-    → Makes p (script_of files c.script) cs → OnlyText (report_of c p g cs) answer
+    (p : Program) (g : ℕ) (h : History) → IsRead (entry_name c.main) (contents_of c.file files) p g
+    → Makes c p g (script_of files c.script) h → OnlyText (report_of c p h) answer

@@ -12,6 +12,7 @@ command_of c = record {
   file = c.file.now;
   script = option_map (λ w. w.now) c.script;
   main = option_map (λ w. w.now) c.main;
+  no_eva = c.no_eva;
   lib_entry = c.lib_entry;
   points = c.points;
 }

@@ -1,4 +1,4 @@
-use Rattle.std.proofs.Common.{◌≡◌, List, ℕ, map, string_bytes, ap, sym, ◌∙◌}
+use Rattle.std.proofs.Common.{map, string_bytes, ap, ◌∙◌}
 use Rattle.event_script.specs.Names.{with_told}
 use Rattle.event_script.proofs.Told.{with_told_texts}
 use Rattle.event_script.proofs.script.Script.told.Goals as goal

@@ -1,0 +1,13 @@
+pub mod Aiming
+pub mod Calls
+pub mod Elements
+pub mod Entering
+pub mod Leaves
+pub mod Numbering
+pub mod Parts
+pub mod Sames
+pub mod Seeing
+pub mod Steps
+pub mod Summing
+pub mod Tallying
+pub mod Weights
