@@ -1,0 +1,5 @@
+pub mod Emission
+pub mod Index
+pub mod Places
+pub mod Reached
+pub mod inner
